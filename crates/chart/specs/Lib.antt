@@ -1,0 +1,5 @@
+pub mod Automata
+pub mod Kinds
+pub mod Made
+pub mod Meanings
+pub mod Fits
