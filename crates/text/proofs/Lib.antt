@@ -1,0 +1,14 @@
+pub mod Bitwise
+pub mod Cells
+pub mod Contexts
+pub mod Cuts
+pub mod Fills
+pub mod Flags
+pub mod Glue
+pub mod Loadings
+pub mod Onwards
+pub mod Outcomes
+pub mod Readable
+pub mod Runs
+pub mod Unique
+pub mod Wordings
