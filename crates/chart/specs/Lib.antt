@@ -1,5 +1,5 @@
 pub mod Automata
 pub mod Kinds
-pub mod Made
+pub mod Refused
 pub mod Meanings
 pub mod Fits

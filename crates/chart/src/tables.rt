@@ -7,7 +7,7 @@ ghost use Rattle.std.specs.Results.{Cases};
 ghost use Rattle.chart.specs.Automata.{Allowed};
 ghost use Rattle.chart.specs.Fits.{sized-limits};
 ghost use Rattle.chart.specs.Kinds.{table, rowwise, statesOf, lettersOf};
-ghost use Rattle.chart.specs.Made.{TableRefused};
+ghost use Rattle.chart.specs.Refused.{TableRefused};
 ghost use Rattle.chart.specs.Meanings.{tableOf};
 use crate::interface::Chart;
 use crate::sizes::Size;

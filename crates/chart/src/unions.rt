@@ -5,7 +5,7 @@ ghost use Rattle.std.specs.Orderings.{Decides};
 ghost use Rattle.std.specs.Results.{Cases};
 ghost use Rattle.chart.specs.Fits.{union-of-limits};
 ghost use Rattle.chart.specs.Kinds.{Unites, union};
-ghost use Rattle.chart.specs.Made.{UnionRefused};
+ghost use Rattle.chart.specs.Refused.{UnionRefused};
 ghost use Rattle.chart.specs.Meanings.{fittedOf, unionOf};
 use crate::fitting::Fitted;
 use crate::fitting::FittedChart;

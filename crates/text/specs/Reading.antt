@@ -55,6 +55,7 @@ fits d (State s) = eqb (s .number) (length (d .states)) && ltb (length (d .state
 fits d Heading = leb 1 (length (d .states))
 fits d (Step t) = stepFits (d .letters) (length (d .states)) t
 
+-- what is read once the entry is, and what comes then
 abbrev pub after : Document → Entry → Context
 after d Title = at AtCount d
 after d (Count n) = at AtColumns (record { letters = n; states = d .states; steps = d .steps })
@@ -63,6 +64,7 @@ after d (State s) = at AtStates (record { letters = d .letters; states = d .stat
 after d Heading = at AtSteps d
 after d (Step t) = at AtSteps (record { letters = d .letters; states = d .states; steps = d .steps ++ t ∷ [] })
 
+-- what a line does: the reader goes on, or the line has the wrong form, or is out of range
 pub data Next : Type 0 where
   go : Context → Next
   form : Next
@@ -75,6 +77,7 @@ taken d (Some e) = cond (fits d e) (go (after d e)) range
 abbrev pub rule : Context → List ℕ → Next
 rule k line = taken (k .sofar) (readEntry (k .stage) line)
 
+-- on a whole text: the document that it is, or the line that is wrong
 pub data Verdict : Type 0 where
   fine : Document → Verdict
   wrong-form : ℕ → Verdict
@@ -133,11 +136,12 @@ abbrev pub Told : Verdict → TextFault → Type 0
 Told v (Form n) = v ≡ wrong-form n
 Told v (Range n) = v ≡ out-of-range n
 
--- what the next line gave: an entry, the end, or a refusal
+-- an entry was read, and the cursor stands behind it
 pub record Went (text : List ℕ) (k : Context) (e : Entry) (c : Cursor) : Type 0 where
   pub reads : fits (k .sofar) e ≡ true
   pub stands : Stands text (after (k .sofar) e) c
 
+-- what the next line gave: an entry, the end of a text that is fine, or a refusal
 abbrev pub Turned : List ℕ → Context → Cursor → Turn → Type 0
 Turned text k c (Line e) = Went text k e c
 Turned text k c End = (verdict text ≡ fine (k .sofar)) × Holds (c .place) k

@@ -2,7 +2,7 @@ use native.Mathlib.Omega.{arith}
 use Prim.Native.Nat.{ℕ}
 use lib.ListN.{replicate, length-replicate}
 use Rattle.std.proofs.shelf.Results.{err-from-errBy}
-use Rattle.report.proofs.Reading.{file-refused}
+use Rattle.report.proofs.Enough.{file-refused}
 use Rattle.report.proofs.reports.read_text.Needs as need
 
 pub returns-in-Break-chart : need.returns-in-Break-chart
