@@ -1,4 +1,6 @@
 // Reads duty.chart and rule.chart from the folder that it is run in, and prints the report on them.
+#![tactic(auto)]
+
 use report::{LIMIT, read_texts};
 use std::io::{ErrorKind, Read};
 use std::{fs, io};

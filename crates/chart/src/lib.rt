@@ -1,4 +1,6 @@
 // Charts, which are nondeterministic Büchi automata, behind one interface of five questions, and the kinds that there are.
+#![tactic(auto)]
+
 mod fitting;
 mod interface;
 mod sizes;

@@ -1,4 +1,6 @@
 // Why a call refuses. Each layer's fault holds the fault of the layer below whole, so that nothing is lost on the way up.
+#![tactic(auto)]
+
 ghost use Rattle.std.specs.Prelude.{◌≡◌};
 ghost use Rattle.fault.specs.Refusals.{text_refusal, refusal, lasso_refusal, survey_refusal, member_refusal};
 ghost use Rattle.fault.specs.declared.ChartFault.TheVariants.{Text};

@@ -1,4 +1,6 @@
 // Finite graphs behind one interface, which is all that the layers above see of them.
+#![tactic(auto)]
+
 ghost use Rattle.std.specs.Prelude.{◌≡◌, ℕ, List};
 ghost use Rattle.graph.specs.Graphs.{Graph, Bounded};
 ghost use Rattle.graph.specs.Least.{Least};

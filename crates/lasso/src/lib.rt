@@ -1,4 +1,6 @@
 // Lassos: words, runs and records that repeat for ever, by their positions; and what it is for a chart to take a word.
+#![tactic(auto)]
+
 mod agreement;
 mod positions;
 

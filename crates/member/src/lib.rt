@@ -1,4 +1,6 @@
 // Which words a chart takes: whether it takes a given one, and whether it takes any. Both are searches of its maps.
+#![tactic(auto)]
+
 mod charts;
 mod questions;
 mod states;

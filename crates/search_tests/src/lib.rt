@@ -1,5 +1,7 @@
 // Examples of searches, with answers worked out by hand. They stand in a crate of their own since tests are proved too,
 // and so are the maps that they search.
+#![tactic(auto)]
+
 #[cfg(test)]
 mod cycles;
 mod ends;

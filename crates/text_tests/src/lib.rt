@@ -1,4 +1,6 @@
 // Examples of chart texts, with answers worked out by hand. They stand in a crate of their own since tests are proved too.
+#![tactic(auto)]
+
 #[cfg(test)]
 mod contents;
 #[cfg(test)]

@@ -1,5 +1,7 @@
 // Tells how long searches take. Run it as `target/bin/timing figures`, once `rt check timing` has made it. Without that word
 // it prints nothing, since figures differ from run to run.
+#![tactic(auto)]
+
 mod bands;
 
 use anyhow::anyhow;
