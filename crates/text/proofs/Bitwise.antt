@@ -14,8 +14,8 @@ or_digit (suc zero) (suc zero) h k = refl
 or_digit (suc zero) (suc (suc v)) h k = absurd (omega arith)
 or_digit (suc (suc u)) v h k = absurd (omega arith)
 
-pub bit_or : (a b q : ℕ) → bit (bit_or a b) q ≡ (bit a q || bit b q)
-bit_or a b q =
+pub bit_of_or : (a b q : ℕ) → bit (bit_or a b) q ≡ (bit a q || bit b q)
+bit_of_or a b q =
     ap (λ x. eqb (x % 2) 1) (or_shr a b q)
     ∙ ap (λ x. eqb x 1) (or_mod (a / 2 ^ q) (b / 2 ^ q) 1)
     ∙ or_digit (a / 2 ^ q % 2) (b / 2 ^ q % 2) (omega arith) (omega arith)
@@ -44,7 +44,7 @@ bit_pow q i =
     (cases_order q i)
 
 pub bit_with : (x q i : ℕ) → bit (bit_or x (2 ^ q)) i ≡ (eqb q i || bit x i)
-bit_with x q i = ap (λ y. bit y i) (or_comm x (2 ^ q)) ∙ bit_or (2 ^ q) x i ∙ ap (λ y. y || bit x i) (bit_pow q i)
+bit_with x q i = ap (λ y. bit y i) (or_comm x (2 ^ q)) ∙ bit_of_or (2 ^ q) x i ∙ ap (λ y. y || bit x i) (bit_pow q i)
 
 pub bit_zero : (q : ℕ) → bit 0 q ≡ false
 bit_zero q =

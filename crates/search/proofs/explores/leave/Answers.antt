@@ -13,5 +13,5 @@ resume-from-requires c =
 
 pub returns : goal.returns
 returns c g b e falls =
-    step_left g c.args.spot c.parent-up.result c.low-link-low.result c.resume-from.result c.args.work.now c.lower.new.work c.resume-from.new.work
-    b e falls c.parent-up.ensures c.low-link-low.ensures c.lower.auto.work c.lower.ensures c.resume-from.auto.work c.resume-from.ensures
+    step_left g c.args.spot c.parent-up.result c.low_link-low.result c.resume-from.result c.args.work.now c.lower.new.work c.resume-from.new.work
+    b e falls c.parent-up.ensures c.low_link-low.ensures c.lower.auto.work c.lower.ensures c.resume-from.auto.work c.resume-from.ensures

@@ -9,7 +9,7 @@ returns g c =
     let swept = c.in-Some.ensures in
     let (is, settled) = c.settle-count.ensures in
     let len = c.settle-count.auto.work in
-    let allowed = c.in-ok-check-table.ensures in
+    let allowed = c.in_ok-check_table.ensures in
     record {
       allowed = omega (arith, c.sweep.auto.work);
       collected = subst (λ n. Collected m n c.settle-count.new.work) (sym is) (collected m c.in-Some.spot c.sweep.new.work c.settle-count.new.work len swept settled);

@@ -4,7 +4,7 @@ use Rattle.search.proofs.surveys.visit.Goals as goal
 
 pub explore-requires : goal.explore-requires
 explore-requires g c =
-    let new = none_since c.locate.result _ _ c.locate.ensures (sym c.if-is-some.ensures) in
+    let new = none_since c.locate.result _ _ c.locate.ensures (sym c.if-is_some.ensures) in
     let begun =
     begin_start (g.M.Map.graph c.args.map.now c.args.word.now c.args.stem) c.args.spot c.args.start c.args.work.now c.enter.new.work (Some c.in-Some.begun)
     c.requires.few c.requires.going c.requires.empty c.requires.start new c.in-Some.ensures in
@@ -13,7 +13,7 @@ explore-requires g c =
 pub returns-in-Some : goal.returns-in-Some
 returns-in-Some g c =
     let m = g.M.Map.graph c.args.map.now c.args.word.now c.args.stem in
-    let new = none_since c.locate.result _ _ c.locate.ensures (sym c.if-is-some.ensures) in
+    let new = none_since c.locate.result _ _ c.locate.ensures (sym c.if-is_some.ensures) in
     let begun =
     begin_start m c.args.spot c.args.start c.args.work.now c.enter.new.work (Some c.in-Some.begun)
     c.requires.few c.requires.going c.requires.empty c.requires.start new c.in-Some.ensures in
@@ -21,6 +21,6 @@ returns-in-Some g c =
 
 pub returns-in-None : goal.returns-in-None
 returns-in-None g c =
-    let new = none_since c.locate.result _ _ c.locate.ensures (sym c.if-is-some.ensures) in
+    let new = none_since c.locate.result _ _ c.locate.ensures (sym c.if-is_some.ensures) in
     begin_start (g.M.Map.graph c.args.map.now c.args.word.now c.args.stem) c.args.spot c.args.start c.args.work.now c.enter.new.work None
     c.requires.few c.requires.going c.requires.empty c.requires.start new c.in-None.ensures

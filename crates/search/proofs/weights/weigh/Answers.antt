@@ -7,7 +7,7 @@ use Rattle.search.proofs.weights.weigh.Goals as goal
 pub loop-i-preserved : goal.loop-i-preserved
 loop-i-preserved g c =
     heavy_place (g.M.Map.graph c.args.map.now c.args.word.now c.args.stem) c.args.spot.cur c.loop-i.i c.args.spot.top c.args.work.now
-    c.loop-i.best c.weigh-node.result c.max-best.result c.loop-i.auto.i c.loop-i.invariant c.weigh-node.ensures c.max-best.ensures
+    c.loop-i.best c.weigh_node.result c.max-best.result c.loop-i.auto.i c.loop-i.invariant c.weigh_node.ensures c.max-best.ensures
 
 pub returns : goal.returns
 returns g c =

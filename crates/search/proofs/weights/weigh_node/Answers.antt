@@ -5,7 +5,7 @@ use Rattle.search.proofs.weights.weigh_node.Goals as goal
 pub loop-letter-preserved : goal.loop-letter-preserved
 loop-letter-preserved g c =
     heavy_letter (g.M.Map.graph c.args.map.now c.args.word.now c.args.stem) c.args.v c.loop-letter.letter c.args.top c.args.work.now
-    c.loop-letter.best c.weigh-letter.result c.max-best.result c.loop-letter.invariant c.weigh-letter.ensures c.max-best.ensures
+    c.loop-letter.best c.weigh_letter.result c.max-best.result c.loop-letter.invariant c.weigh_letter.ensures c.max-best.ensures
 
 pub returns : goal.returns
 returns g c =

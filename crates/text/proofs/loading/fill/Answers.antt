@@ -17,7 +17,7 @@ loop-entry-preserved c = λ d v e.
     let ls = pieces 10 c.advance.new.self.rest.now in
     let w = c.in-Line.ensures.turned c.args.text.now t.0 t.1 in
     let same : judge (after k x) n ls ≡ fine d = ◌∙◌ {a = judge (after k x) n ls} (sym {b = judge (after k x) n ls} w.stands.same) v in
-    (after k x, w.stands, c.add-entry.ensures d k c.args.rows.now e (sym c.loop-entry.auto.rows) (record { fit = w.reads; holds = w.stands.holds; alike = alike_after k x n ls d same }) t.2)
+    (after k x, w.stands, c.add_entry.ensures d k c.args.rows.now e (sym c.loop-entry.auto.rows) (record { fit = w.reads; holds = w.stands.holds; alike = alike_after k x n ls d same }) t.2)
 
 pub returns-in-Wrong : goal.returns-in-Wrong
 returns-in-Wrong c = λ d v e.

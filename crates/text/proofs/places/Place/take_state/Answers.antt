@@ -17,9 +17,9 @@ returns c = λ k h.
       states = omega (arith, length_push xs s);
       few = omega (arith, length_push xs s);
       starts =
-          flag_push (λ x. x.start) refl xs s c.args.self.starts c.with-if-starts.result h.starts
-          (λ q. subst (λ (n : ℕ). bit c.with-if-starts.result q ≡ cond s.start (eqb n q || bit c.args.self.starts q) (bit c.args.self.starts q)) h.states (c.with-if-starts.ensures q));
+          flag_push (λ x. x.start) refl xs s c.args.self.starts c.with_if-starts.result h.starts
+          (λ q. subst (λ (n : ℕ). bit c.with_if-starts.result q ≡ cond s.start (eqb n q || bit c.args.self.starts q) (bit c.args.self.starts q)) h.states (c.with_if-starts.ensures q));
       marks =
-          flag_push (λ x. x.mark) refl xs s c.args.self.marks c.with-if-marks.result h.marks
-          (λ q. subst (λ (n : ℕ). bit c.with-if-marks.result q ≡ cond s.mark (eqb n q || bit c.args.self.marks q) (bit c.args.self.marks q)) h.states (c.with-if-marks.ensures q));
+          flag_push (λ x. x.mark) refl xs s c.args.self.marks c.with_if-marks.result h.marks
+          (λ q. subst (λ (n : ℕ). bit c.with_if-marks.result q ≡ cond s.mark (eqb n q || bit c.args.self.marks q) (bit c.args.self.marks q)) h.states (c.with_if-marks.ensures q));
     })
