@@ -90,10 +90,7 @@ pub(crate) fn witnessed<M: Map>(
     let Some(witness) = found.witness else {
         return Err(Fail::new("no witness"));
     };
-    for node in witnesses {
-        if *node == witness {
-            return Ok(());
-        }
-    }
-    Err(Fail::new("another witness")).note(witness)
+    let named = witnesses.iter().any(|node| *node == witness);
+    assert!(rt; named, "another witness: {}", witness);
+    Ok(())
 }

@@ -82,8 +82,8 @@ fn letters(rt: HostRuntime) -> Result<(), Fail> {
         0b10, 0, 0b10, 0, 0b10, 0, 0b10, 0, 0b10, 0, 0b10, 0, 0b10, 0, 0b10, 0,
     ];
     let second = [0, 0, 0, 0, 0, 0, 0, 0, 0, 0, 0, 0, 0, 0, 0, 0b01];
-    assert_eq!(rt; &rows[0..16], &first);
-    assert_eq!(rt; &rows[16..32], &second);
+    assert_eq!(rt; &rows[0..16], first.as_slice());
+    assert_eq!(rt; &rows[16..32], second.as_slice());
     Ok(())
 }
 
