@@ -1,5 +1,5 @@
 -- Where few places hold every reachable node, not more nodes are reachable.
-use Rattle.std.proofs.Common.{◌≡◌, ℕ, ◌<◌, ◌≤◌, ◌⊎◌, sym, ap, ◌∙◌, subst, inl, inr, ⊎_elim, arith}
+use Rattle.std.proofs.Common.{◌≡◌, ℕ, ◌<◌, ◌≤◌, ◌⊎◌, sym, ap, ◌∙◌, inl, inr, arith}
 use Rattle.std.proofs.lemmas.Bool.{cases_lt}
 use Rattle.numbers.proofs.Pigeonhole.{pigeonhole}
 use Rattle.graph.specs.Graphs.{Graph}

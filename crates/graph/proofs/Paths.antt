@@ -1,7 +1,7 @@
 -- Paths joined, and walks along them.
-use Rattle.std.proofs.Common.{◌≡◌, ℕ, ◌+◌, ◌<◌, ◌≤◌, Bool, true, false, ◌⊎◌, List, [], ◌∷◌, ◌++◌, refl, subst, inl, inr, ⊎_elim, arith}
+use Rattle.std.proofs.Common.{◌≡◌, ℕ, ◌≤◌, true, List, ◌∷◌, refl, arith}
 use Rattle.graph.specs.Graphs.{Graph, Bounded}
-use Rattle.graph.specs.Walks.{Edge, Reach, begin, go, To, here, next, Path, OnCycle, Walk, mark, marks, Measure}
+use Rattle.graph.specs.Walks.{Edge, Reach, begin, go, here, next, Path, OnCycle, Walk, mark, marks, Measure}
 
 pub path_join : (g : Graph) (w : ℕ) {u v : ℕ} → Path g v u → Path g u w → Path g v w
 path_join g w here q = q

@@ -1,5 +1,5 @@
 -- Ways through a graph: what can be reached, what lies on a cycle, and how many marked nodes a walk can pass.
-use Rattle.std.specs.Prelude.{◌≡◌, ℕ, ◌+◌, ◌<◌, ◌≤◌, Bool, true, false, cond, List, [], ◌∷◌}
+use Rattle.std.specs.Prelude.{◌≡◌, ℕ, ◌+◌, ◌<◌, ◌≤◌, Bool, true, false, List, [], ◌∷◌}
 use Rattle.graph.specs.Graphs.{Graph}
 
 -- some edge leads from v to w

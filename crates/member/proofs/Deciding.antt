@@ -1,8 +1,8 @@
 -- What a search of a chart's maps tells of its words.
-use Rattle.std.proofs.Common.{◌≡◌, ℕ, Bool, true, false, not, List, length, is_some, Some, None, Option, sym, subst}
+use Rattle.std.proofs.Common.{◌≡◌, ℕ, Bool, not, List, length, is_some, Some, None, Option, sym, subst}
 use Rattle.chart.specs.Automata.{Automaton, Limits}
-use Rattle.graph.specs.Walks.{MarkedCycle, More}
-use Rattle.lasso.specs.Words.{letter, Word, Takes, Accepts}
+use Rattle.graph.specs.Walks.{More}
+use Rattle.lasso.specs.Words.{Word}
 use Rattle.lasso.proofs.Agreeing.{takes_accepts, accepts_takes}
 use Rattle.search.specs.declared.records.Record.{Record}
 use Rattle.search.specs.declared.surveys.Findings.{Findings}

@@ -1,11 +1,11 @@
 -- What a finished component is worth.
-use Rattle.std.proofs.Common.{◌≡◌, ℕ, suc, ◌+◌, ◌-◌, ◌<◌, ◌≤◌, Bool, true, false, ◌⊎◌, List, length, Some, None, Option, sym, refl, ◌∙◌, subst, inl, inr, ⊎_elim, arith}
+use Rattle.std.proofs.Common.{◌≡◌, ℕ, ◌+◌, ◌-◌, ◌<◌, ◌≤◌, Bool, true, false, ◌⊎◌, List, length, None, sym, refl, subst, inl, inr, ⊎_elim, arith}
 use Rattle.std.proofs.lemmas.Bool.{cases_eq, cases_lt}
 use Rattle.graph.specs.Graphs.{Graph}
 use Rattle.graph.specs.Walks.{Edge, Reach, here, Recurring, mark, Measure}
 use Rattle.search.specs.declared.records.Record.{Record}
 use Rattle.search.specs.Tables.{node_at, letter_at, measure_at, low_at, up_at}
-use Rattle.search.specs.Trees.{Used, Held, Follows, Heavy}
+use Rattle.search.specs.Trees.{Used, Follows, Heavy}
 use Rattle.search.specs.Weights.{Unmarked, MarkedIn, Rooted}
 use Rattle.search.proofs.Components.{comp_recurring, plain_measure, lone_measure}
 

@@ -1,9 +1,9 @@
 -- The columns of a table, after a record is written.
-use Rattle.std.proofs.Common.{◌≡◌, ℕ, ◌+◌, ◌*◌, ◌/◌, ◌%◌, ◌<◌, ◌≤◌, List, length, get_or, set, sym, refl, ap, ◌∙◌, subst, arith}
+use Rattle.std.proofs.Common.{◌≡◌, ℕ, ◌+◌, ◌*◌, ◌/◌, ◌%◌, ◌<◌, List, length, get_or, set, sym, ap, ◌∙◌, arith}
 use mathlib.Core.Path.{fun_ext}
 use Rattle.std.proofs.lemmas.List.{get_or-set_same, get_or-set_other}
 use Rattle.search.specs.declared.records.Record.{Record}
-use Rattle.search.specs.Tables.{blank, node_at, letter_at, measure_at, low_at, up_at}
+use Rattle.search.specs.Tables.{blank}
 use Rattle.search.specs.Trees.{put}
 use Rattle.search.proofs.Puts.{by_place, put_same, put_other}
 

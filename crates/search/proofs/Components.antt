@@ -1,11 +1,11 @@
 -- The current place is explored and is its own low link: the stack from it on is a strongly connected component that
 -- no edge leaves but to what is done.
-use Rattle.std.proofs.Common.{◌≡◌, ℕ, zero, suc, ◌+◌, ◌<◌, ◌≤◌, Bool, true, false, ◌⊎◌, List, [], ◌∷◌, sym, refl, subst, inl, inr, ⊎_elim, arith}
-use Rattle.std.proofs.lemmas.Bool.{cases_eq, cases_lt}
+use Rattle.std.proofs.Common.{◌≡◌, ℕ, zero, suc, ◌+◌, ◌<◌, ◌≤◌, true, ◌⊎◌, List, [], ◌∷◌, sym, refl, subst, inl, ⊎_elim, arith}
+use Rattle.std.proofs.lemmas.Bool.{cases_eq}
 use Rattle.graph.specs.Graphs.{Graph}
-use Rattle.graph.specs.Walks.{Edge, Reach, Path, here, OnCycle, Recurring, Walk, mark, marks, Measure}
+use Rattle.graph.specs.Walks.{Edge, Reach, Path, here, Recurring, Walk, mark, marks, Measure}
 use Rattle.graph.proofs.Paths.{path_join, path_edge, path_first, path_before}
-use Rattle.search.specs.Trees.{At, Upto, Open, Under, Tree, Follows, Heavy}
+use Rattle.search.specs.Trees.{At, Upto, Tree, Follows, Heavy}
 use Rattle.search.proofs.Steps.{open_le}
 
 module _ (g : Graph) (s top n cur : ℕ) (node letter low up at : ℕ → ℕ)

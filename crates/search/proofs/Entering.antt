@@ -1,14 +1,14 @@
 -- A new node is entered, or there is no room for it.
-use Rattle.std.proofs.Common.{◌≡◌, ℕ, zero, suc, ◌+◌, ◌-◌, ◌*◌, ◌/◌, ◌%◌, ◌<◌, ◌≤◌, true, ◌⊎◌, List, length, set, Some, None, Option, sym, refl, ap, ◌∙◌, subst, inl, inr, ⊎_elim, arith, length-set, MatchOption}
-use Rattle.std.proofs.lemmas.Bool.{cases_eq, cases_lt}
+use Rattle.std.proofs.Common.{◌≡◌, ℕ, suc, ◌+◌, ◌*◌, ◌/◌, ◌%◌, ◌<◌, ◌≤◌, List, length, set, Some, None, Option, sym, refl, ap, ◌∙◌, subst, inl, inr, ⊎_elim, arith, length-set, MatchOption}
+use Rattle.std.proofs.lemmas.Bool.{cases_lt}
 use Rattle.graph.specs.Graphs.{Graph}
 use Rattle.graph.specs.Least.{Least}
 use Rattle.graph.specs.Walks.{Edge, Reach, go, Path, here, More}
 use Rattle.search.specs.declared.records.Record.{Record}
 use Rattle.search.specs.declared.spots.Spot.{Spot}
-use Rattle.search.specs.Searches.{Searching, Going, Fresh, Entered, Holds, Keeps, Stepped, ahead}
+use Rattle.search.specs.Searches.{Searching, Going, Fresh, Entered, Holds, Keeps, Stepped}
 use Rattle.search.specs.Tables.{node_at, letter_at, measure_at, low_at, up_at}
-use Rattle.search.specs.Trees.{At, Used, Upto, Held, Done, Tree, put}
+use Rattle.search.specs.Trees.{Used, Upto, Held, Done, Tree, put}
 use Rattle.search.proofs.Columns.{column_set, low_of, up_of}
 use Rattle.search.proofs.Finished.{done_as}
 use Rattle.search.proofs.Moves.{fun_at, upto_next}

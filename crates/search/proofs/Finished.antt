@@ -4,9 +4,9 @@ use Rattle.graph.specs.Graphs.{Graph}
 use Rattle.graph.specs.Walks.{Edge, Measure}
 use Rattle.search.specs.declared.records.Record.{Record}
 use Rattle.search.specs.Changes.{Quiet}
-use Rattle.search.specs.Searches.{Holds, Keeps}
+use Rattle.search.specs.Searches.{Keeps}
 use Rattle.search.specs.Tables.{node_at, measure_at}
-use Rattle.search.specs.Trees.{Used, Done, DoneTold}
+use Rattle.search.specs.Trees.{Done, DoneTold}
 use Rattle.search.proofs.Moves.{fun_at}
 
 module _ (g : Graph) (top n : ℕ) (node measure node' measure' : ℕ → ℕ)

@@ -1,17 +1,16 @@
 -- An explored place is left for its parent.
-use Rattle.std.proofs.Common.{◌≡◌, ℕ, suc, ◌+◌, ◌<◌, ◌≤◌, min, ◌⊎◌, List, length, sym, refl, ◌∙◌, subst, inl, inr, ⊎_elim, arith}
-use Rattle.std.proofs.lemmas.Bool.{cases_lt}
+use Rattle.std.proofs.Common.{◌≡◌, ℕ, suc, ◌<◌, ◌≤◌, min, List, length, sym, refl, ◌∙◌, subst, inl, inr, ⊎_elim, arith}
 use Rattle.graph.specs.Graphs.{Graph, Bounded}
 use Rattle.graph.specs.Walks.{Path}
 use Rattle.graph.proofs.Paths.{path_join}
 use Rattle.search.specs.declared.records.Record.{Record}
 use Rattle.search.specs.declared.spots.Spot.{Spot}
-use Rattle.search.specs.Changes.{Changed, Quiet}
-use Rattle.search.specs.Searches.{Searching, Explored, Going, Keeps, Stepped, Resumed}
-use Rattle.search.specs.Tables.{node_at, letter_at, measure_at, low_at, up_at}
-use Rattle.search.specs.Trees.{Upto, At, Under, Tree, put}
+use Rattle.search.specs.Changes.{Changed}
+use Rattle.search.specs.Searches.{Searching, Explored, Stepped, Resumed}
+use Rattle.search.specs.Tables.{node_at, letter_at, low_at, up_at}
+use Rattle.search.specs.Trees.{Under, Tree, put}
 use Rattle.search.proofs.Finished.{done_quiet, keeps_nodes}
-use Rattle.search.proofs.Moves.{fun_at, quiet_join, changed_quiet, changed_letter, changed_low, held_as, tree_changed, min_cases, searching_resumed, resumed_quiet}
+use Rattle.search.proofs.Moves.{fun_at, quiet_join, changed_quiet, changed_low, held_as, tree_changed, min_cases, searching_resumed, resumed_quiet}
 use Rattle.search.proofs.Puts.{put_same, put_other}
 use Rattle.search.proofs.Pushes.{tree_leave}
 use Rattle.search.proofs.Steps.{tree_seen}

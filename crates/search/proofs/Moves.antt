@@ -1,15 +1,15 @@
 -- The current place of a search looks further.
-use Rattle.std.proofs.Common.{◌≡◌, ℕ, suc, ◌+◌, ◌^◌, ◌<◌, ◌≤◌, min, true, ◌⊎◌, List, length, Some, None, sym, refl, ap, ◌∙◌, subst, inl, inr, ⊎_elim, arith}
+use Rattle.std.proofs.Common.{◌≡◌, ℕ, suc, ◌+◌, ◌^◌, ◌<◌, ◌≤◌, min, true, ◌⊎◌, List, length, Some, sym, refl, ap, ◌∙◌, subst, inl, inr, ⊎_elim, arith}
 use Rattle.std.proofs.lemmas.Bool.{cases_eq, cases_lt}
 use Rattle.graph.specs.Graphs.{Graph, Bounded}
 use Rattle.graph.specs.Least.{Least}
-use Rattle.graph.specs.Walks.{Edge, Path}
+use Rattle.graph.specs.Walks.{Path}
 use Rattle.graph.proofs.Paths.{path_edge}
 use Rattle.search.specs.declared.records.Record.{Record}
 use Rattle.search.specs.Changes.{Changed, Quiet}
 use Rattle.search.specs.Searches.{Searching, Resumed, left}
-use Rattle.search.specs.Tables.{node_at, letter_at, measure_at, low_at, up_at}
-use Rattle.search.specs.Trees.{At, Used, Upto, Open, Held, Tree, put}
+use Rattle.search.specs.Tables.{node_at, letter_at, low_at, up_at}
+use Rattle.search.specs.Trees.{At, Used, Upto, Held, Tree, put}
 use Rattle.search.proofs.Puts.{put_same, put_other}
 use Rattle.search.proofs.Steps.{tree_seen}
 

@@ -1,6 +1,6 @@
 -- A component leaves the stack for the done part.
-use Rattle.std.proofs.Common.{◌≡◌, ℕ, zero, suc, ◌+◌, ◌-◌, ◌<◌, ◌≤◌, true, ◌⊎◌, Option, sym, refl, ◌∙◌, subst, inl, inr, ⊎_elim, arith}
-use Rattle.std.proofs.lemmas.Bool.{cases_eq, cases_lt}
+use Rattle.std.proofs.Common.{◌≡◌, ℕ, zero, suc, ◌+◌, ◌-◌, ◌<◌, ◌≤◌, ◌⊎◌, Option, sym, refl, ◌∙◌, subst, inl, inr, ⊎_elim, arith}
+use Rattle.std.proofs.lemmas.Bool.{cases_lt}
 use Rattle.graph.specs.Graphs.{Graph}
 use Rattle.graph.specs.Walks.{Edge, Reach, Path, Measure}
 use Rattle.search.specs.Trees.{At, Used, Upto, Open, Under, Held, Done, DoneTold, Tree}

@@ -1,5 +1,5 @@
 -- A function changed at one place.
-use Rattle.std.proofs.Common.{◌≡◌, ℕ, cond, eqb, sym, refl, ap, subst, ⊎_elim, arith}
+use Rattle.std.proofs.Common.{◌≡◌, ℕ, eqb, sym, refl, subst, ⊎_elim}
 use mathlib.Core.Path.{fun_ext}
 use Rattle.std.proofs.lemmas.Bool.{cases_eq, eq-eqb, ne_eqb, cond-true, cond-false}
 use Rattle.search.specs.Trees.{put}

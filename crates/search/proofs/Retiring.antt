@@ -1,15 +1,14 @@
 -- A component is retired, and its root's parent goes on.
-use Rattle.std.proofs.Common.{◌≡◌, ℕ, zero, suc, ◌+◌, ◌-◌, ◌/◌, ◌%◌, ◌<◌, ◌≤◌, ◌⊎◌, List, length, Some, None, Option, sym, refl, ap, ◌∙◌, subst, inl, inr, ⊎_elim, arith}
+use Rattle.std.proofs.Common.{◌≡◌, ℕ, zero, suc, ◌+◌, ◌-◌, ◌/◌, ◌%◌, ◌<◌, ◌≤◌, List, length, Some, None, Option, sym, refl, ap, ◌∙◌, subst, inl, inr, ⊎_elim, arith}
 use Rattle.std.proofs.lemmas.Bool.{cases_lt}
 use Rattle.graph.specs.Graphs.{Graph, Bounded}
-use Rattle.graph.specs.Walks.{Measure}
 use Rattle.search.specs.declared.records.Record.{Record}
 use Rattle.search.specs.declared.spots.Spot.{Spot}
 use Rattle.search.specs.declared.weights.Assessed.{Assessed}
 use Rattle.search.specs.Changes.{Risen}
-use Rattle.search.specs.Searches.{Searching, Explored, Going, Holds, Keeps, Stepped, Resumed}
+use Rattle.search.specs.Searches.{Searching, Holds, Keeps, Stepped, Resumed}
 use Rattle.search.specs.Tables.{node_at, letter_at, measure_at, low_at, up_at}
-use Rattle.search.specs.Trees.{Used, Held, Done, DoneTold, Tree, Under}
+use Rattle.search.specs.Trees.{Used, Held, Done, DoneTold, Tree}
 use Rattle.search.specs.Weights.{Rooted, Assessment, ComponentTold, Retired}
 use Rattle.search.proofs.Finished.{done_quiet, keeps_nodes}
 use Rattle.search.proofs.Leaving.{parent_of}

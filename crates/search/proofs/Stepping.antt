@@ -1,5 +1,5 @@
 -- A step begins by looking at edges, which changes the current place's record alone.
-use Rattle.std.proofs.Common.{◌≡◌, ℕ, ◌<◌, List, length, Some, None, Option, subst, arith, MatchOption}
+use Rattle.std.proofs.Common.{◌≡◌, ◌<◌, List, length, Some, None, Option, subst, arith, MatchOption}
 use Rattle.graph.specs.Graphs.{Graph}
 use Rattle.graph.specs.Walks.{More}
 use Rattle.search.specs.declared.records.Record.{Record}

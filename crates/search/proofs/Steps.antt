@@ -1,9 +1,8 @@
 -- What a search does to its stack keeps the facts on it.
-use Rattle.std.proofs.Common.{◌≡◌, ℕ, zero, suc, ◌<◌, ◌≤◌, true, ◌⊎◌, sym, refl, subst, inl, inr, ⊎_elim, arith}
-use Rattle.std.proofs.lemmas.Bool.{cases_eq, cases_lt}
+use Rattle.std.proofs.Common.{◌≡◌, ℕ, zero, suc, ◌<◌, ◌≤◌, ◌⊎◌, sym, subst, inl, inr, ⊎_elim, arith}
+use Rattle.std.proofs.lemmas.Bool.{cases_lt}
 use Rattle.graph.specs.Graphs.{Graph}
-use Rattle.graph.specs.Walks.{Edge, Path, here}
-use Rattle.graph.proofs.Paths.{path_join, path_edge}
+use Rattle.graph.specs.Walks.{Path}
 use Rattle.search.specs.Trees.{At, Upto, Open, Under, Tree, put}
 use Rattle.search.proofs.Puts.{by_place, put_same, put_other}
 

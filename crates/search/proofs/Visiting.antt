@@ -1,17 +1,17 @@
 -- A search from a start, and from every start.
-use Rattle.std.proofs.Common.{◌≡◌, ℕ, zero, suc, ◌+◌, ◌-◌, ◌<◌, ◌≤◌, true, false, ◌⊎◌, List, length, get_or, set, is_some, Some, None, Option, sym, refl, ap, ◌∙◌, subst, inl, inr, ⊎_elim, arith, MatchOption}
+use Rattle.std.proofs.Common.{◌≡◌, ℕ, ◌+◌, ◌-◌, ◌<◌, ◌≤◌, true, false, List, length, is_some, Some, None, Option, sym, refl, ap, ◌∙◌, subst, inr, ⊎_elim, arith, MatchOption}
 use Rattle.std.proofs.lemmas.Bool.{cases_lt, true≢false}
-use Rattle.graph.specs.Graphs.{Graph, Bounded}
+use Rattle.graph.specs.Graphs.{Graph}
 use Rattle.graph.specs.Least.{Least}
-use Rattle.graph.specs.Walks.{Edge, Reach, begin, go, MarkedCycle, Measure, More}
+use Rattle.graph.specs.Walks.{Edge, Reach, begin, go, Measure, More}
 use Rattle.graph.proofs.Counting.{not_more}
 use Rattle.graph.proofs.Paths.{no_measure}
 use Rattle.search.specs.declared.records.Record.{Record}
 use Rattle.search.specs.declared.spots.Spot.{Spot}
 use Rattle.search.specs.Changes.{Settled}
 use Rattle.search.specs.Searches.{Going, Holds, Keeps, Entered, Rested, Visited, Swept}
-use Rattle.search.specs.Surveys.{Allowed, Collected, Told}
-use Rattle.search.specs.Tables.{blank, node_at, letter_at, measure_at, low_at, up_at}
+use Rattle.search.specs.Surveys.{Collected, Told}
+use Rattle.search.specs.Tables.{node_at, letter_at, measure_at, low_at, up_at}
 use Rattle.search.specs.Trees.{At, Used, DoneTold, Tree, put}
 use Rattle.search.proofs.Entering.{crowded, going_pushed, keeps_pushed, holds_pushed, tree_start}
 

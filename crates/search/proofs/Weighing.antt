@@ -1,7 +1,7 @@
 -- The greatest measure among done nodes, taken over more and more of them.
-use Rattle.std.proofs.Common.{◌≡◌, ℕ, suc, ◌+◌, ◌^◌, ◌<◌, ◌≤◌, max, true, ◌⊎◌, List, length, Some, None, sym, refl, ◌∙◌, subst, inl, inr, ⊎_elim, arith}
+use Rattle.std.proofs.Common.{◌≡◌, ℕ, ◌+◌, ◌<◌, ◌≤◌, max, true, ◌⊎◌, List, length, Some, sym, refl, ◌∙◌, subst, inl, inr, ⊎_elim, arith}
 use Rattle.std.proofs.lemmas.Bool.{cases_eq, cases_lt}
-use Rattle.graph.specs.Graphs.{Graph, Bounded}
+use Rattle.graph.specs.Graphs.{Graph}
 use Rattle.graph.specs.Least.{Least}
 use Rattle.graph.specs.Walks.{Edge}
 use Rattle.search.specs.declared.records.Record.{Record}

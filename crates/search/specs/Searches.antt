@@ -1,5 +1,5 @@
 -- A search on its way: what holds of its table, and what its steps make of it.
-use Rattle.std.specs.Prelude.{◌≡◌, ℕ, suc, ◌+◌, ◌-◌, ◌*◌, ◌^◌, ◌<◌, ◌≤◌, true, ◌⊎◌, List, length, set, Some, None, Option, ◌≢◌}
+use Rattle.std.specs.Prelude.{◌≡◌, ℕ, ◌+◌, ◌-◌, ◌*◌, ◌^◌, ◌<◌, ◌≤◌, true, ◌⊎◌, List, length, set, Some, None, Option, ◌≢◌}
 use Rattle.graph.specs.Graphs.{Graph}
 use Rattle.graph.specs.Least.{Least}
 use Rattle.search.specs.declared.records.Record.{Record}

@@ -1,6 +1,6 @@
 -- The graph of a band: n nodes in a row, of which each leads to as many after it as it reaches, and to those after it
 -- that are in the tail, the last nodes of the row. Where it wraps, the last nodes lead on to the first ones.
-use Rattle.std.specs.Prelude.{◌≡◌, ℕ, ◌+◌, ◌%◌, ◌^◌, ◌<◌, ◌≤◌, min, Bool, true, ◌&&◌, ◌||◌, ◌⊎◌, ◌==◌, nat_le, nat_lt}
+use Rattle.std.specs.Prelude.{ℕ, ◌+◌, ◌%◌, ◌^◌, min, Bool, ◌&&◌, ◌||◌, ◌==◌, nat_le, nat_lt}
 use Rattle.std.proofs.Common.{arith}
 use Rattle.std.proofs.lemmas.Bool.{and_parts, ltb-true, eqb-true}
 use Rattle.graph.specs.Graphs.{Graph, Bounded}

@@ -1,5 +1,4 @@
 use Rattle.search.specs.Searches.{Going, Keeps, ahead}
-use Rattle.std.proofs.Common.{length}
 use Rattle.search.proofs.explores.explore.Given as goal
 
 abbrev pub invariant-loop-spot : goal.invariant-loop-spot

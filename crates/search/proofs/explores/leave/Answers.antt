@@ -1,4 +1,4 @@
-use Rattle.std.proofs.Common.{◌≡◌, ◌<◌, sym, ◌∙◌, subst, arith}
+use Rattle.std.proofs.Common.{◌<◌, sym, subst, arith}
 use Rattle.search.specs.Tables.{letter_at}
 use Rattle.search.proofs.Leaving.{step_left}
 use Rattle.search.proofs.Moves.{changed_letter}

@@ -1,4 +1,4 @@
-use Rattle.std.proofs.Common.{◌≡◌, ℕ, suc, ◌^◌, ◌<◌, length, arith}
+use Rattle.std.proofs.Common.{suc, arith}
 use Rattle.search.specs.Searches.{Searching}
 use Rattle.search.specs.Tables.{letter_at}
 use Rattle.search.proofs.Moves.{changed_quiet, changed_letter, quiet_join, searching_turn, searching_met, searching_resumed, resumed_quiet, left_turn, left_resumed}

@@ -1,4 +1,4 @@
-use Rattle.std.proofs.Common.{◌≡◌, ◌≤◌, length}
+use Rattle.std.proofs.Common.{◌≡◌}
 use Rattle.search.specs.Changes.{Quiet}
 use Rattle.search.specs.Searches.{Searching, left}
 use Rattle.search.specs.Tables.{letter_at}

@@ -1,4 +1,4 @@
-use Rattle.std.proofs.Common.{length, sym, subst, arith}
+use Rattle.std.proofs.Common.{sym, subst, arith}
 use Rattle.search.specs.Surveys.{Collected, Told}
 use Rattle.search.proofs.Visiting.{collected, told, room}
 use Rattle.search.proofs.surveys.survey.Goals as goal
