@@ -3,7 +3,7 @@ use Rattle.std.proofs.Common.{◌≡◌, ℕ, ◌<◌, ◌≤◌, true, ◌&&◌
 use Rattle.std.proofs.ByRecursion.{All-push}
 use Rattle.std.proofs.lemmas.List.{append_assoc, map_push, length_push, get_or_append_left, get_or_push}
 use Rattle.std.proofs.lemmas.Bool.{and_parts, eqb-true, leb-true, ltb-true, cases_lt}
-use Rattle.std.specs.List.{AllByRecursion as All}
+use Rattle.std.specs.List.{AllByRecursion}
 use Rattle.text.proofs.Wordings.{Belongs}
 use Rattle.text.specs.Documents.{Document, entries, no_state, ByFits, StepFits, InRange}
 use Rattle.text.specs.Reading.{fits, after, fits_by}
@@ -129,7 +129,7 @@ heading_ranged d h r f =
             few_letters = r.0.few;
           };
       in_turn = r.1.in_turn;
-      steps_fit = subst (All (StepFits d.letters (length d.states))) (sym h) tt;
+      steps_fit = subst (AllByRecursion (StepFits d.letters (length d.states))) (sym h) tt;
     }
 
 by_fits : (k : ℕ) (b : By) → fits_by k b ≡ true → ByFits k b

@@ -3,12 +3,12 @@ use Rattle.std.proofs.Common.{◌≡◌, ℕ, ◌+◌, ◌<◌, ◌≤◌, false
 use Rattle.std.proofs.ByRecursion.{All-from_get_or}
 use Rattle.std.proofs.lemmas.List.{take-append-drop, drop_more, get_or-take, length-take-le}
 use Rattle.std.proofs.lemmas.Bool.{eq-eqb, ne_eqb}
-use Rattle.std.specs.List.{AllByRecursion as All}
+use Rattle.std.specs.List.{AllByRecursion}
 use Rattle.text.specs.Pieces.{front, later, pieces}
 
 -- s does not stand in the text
 abbrev pub Plain : ℕ → List ℕ → Type 0
-Plain s t = All (λ b. eqb b s ≡ false) t
+Plain s t = AllByRecursion (λ b. eqb b s ≡ false) t
 
 pub front_plain : (s : ℕ) (t : List ℕ) → Plain s t → front s t ≡ t
 front_plain s [] h = refl

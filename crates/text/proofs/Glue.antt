@@ -2,7 +2,7 @@
 use Rattle.std.proofs.Common.{◌≡◌, ℕ, Bool, true, false, cond, eqb, List, [], ◌∷◌, ◌++◌, sym, refl, ap, ◌∙◌}
 use Rattle.std.proofs.lemmas.List.{append_assoc}
 use Rattle.std.proofs.lemmas.Bool.{eqb-true}
-use Rattle.std.specs.List.{flat_map, AllByRecursion as All}
+use Rattle.std.specs.List.{flat_map, AllByRecursion}
 use Rattle.text.proofs.Cuts.{Plain, pieces_cut}
 use Rattle.text.specs.Documents.{ended}
 use Rattle.text.specs.Pieces.{front, later, pieces}
@@ -32,7 +32,7 @@ glue_ended (l ∷ []) = sym (append_assoc l (10 ∷ []) []) ∙ refl
 glue_ended (l ∷ (m ∷ ls)) =
     ap (λ x. l ++ 10 ∷ x) (glue_ended (m ∷ ls)) ∙ sym (append_assoc l (10 ∷ []) (flat_map ended (m ∷ ls)))
 
-pub pieces_ended : (ls : List (List ℕ)) → All (Plain 10) ls → pieces 10 (flat_map ended ls) ≡ ls ++ [] ∷ []
+pub pieces_ended : (ls : List (List ℕ)) → AllByRecursion (Plain 10) ls → pieces 10 (flat_map ended ls) ≡ ls ++ [] ∷ []
 pieces_ended [] h = refl
 pieces_ended (l ∷ ls) h =
     ap (pieces 10) (append_assoc l (10 ∷ []) (flat_map ended ls)) ∙ pieces_cut 10 l (flat_map ended ls) h.0

@@ -6,7 +6,7 @@ use Rattle.fault.specs.declared.TextFault.{TextFault}
 use Rattle.fault.specs.declared.TextFault.TheVariants.{Form, Range}
 use Rattle.std.proofs.lemmas.List.{get_or_past}
 use Rattle.std.proofs.lemmas.Bool.{and_parts, or_cases, eqb-true, ltb-true, lt-ltb, le-ltb, cases_lt}
-use Rattle.std.specs.List.{AllByRecursion as All}
+use Rattle.std.specs.List.{AllByRecursion}
 use Rattle.text.proofs.Onwards.{told_not_fine}
 use Rattle.text.proofs.Outcomes.{Outcome, outcome, read_written}
 use Rattle.text.proofs.Unique.{wrong_once}
@@ -70,7 +70,7 @@ covers_within k (Letter j) i f e = let s : j ≡ i = eqb-true j i e in omega ari
 covers_within k Every i f e = ltb-true i k e
 
 -- a step that is told is within the chart
-tells_within : (k n : ℕ) (ts : List StepLine) → All (StepFits k n) ts → (p i q : ℕ) → some_tells k ts p i q ≡ true → (p < n) × (i < k) × (q < n)
+tells_within : (k n : ℕ) (ts : List StepLine) → AllByRecursion (StepFits k n) ts → (p i q : ℕ) → some_tells k ts p i q ≡ true → (p < n) × (i < k) × (q < n)
 tells_within k n [] h p i q e = absurd (let z : ◌≡◌ {A = ℕ} 0 1 = cc in omega arith)
 tells_within k n (t ∷ ts) h p i q e =
     ⊎_elim
@@ -85,7 +85,7 @@ tells_within k n (t ∷ ts) h p i q e =
     (λ (x : some_tells k ts p i q ≡ true). tells_within k n ts h.1 p i q x)
     (or_cases (tells_step k t p i q) (some_tells k ts p i q) e)
 
-step_guard : (n k : ℕ) (ts : List StepLine) (cell : Bool) (p i q : ℕ) → All (StepFits k n) ts → (p < n → i < k → cell ≡ some_tells k ts p i q) → (ltb p n && (ltb i k && (ltb q n && cell))) ≡ some_tells k ts p i q
+step_guard : (n k : ℕ) (ts : List StepLine) (cell : Bool) (p i q : ℕ) → AllByRecursion (StepFits k n) ts → (p < n → i < k → cell ≡ some_tells k ts p i q) → (ltb p n && (ltb i k && (ltb q n && cell))) ≡ some_tells k ts p i q
 step_guard n k ts cell p i q fit h =
     let w : some_tells k ts p i q ≡ true → (p < n) × (i < k) × (q < n) = tells_within k n ts fit p i q in
     ⊎_elim

@@ -2,7 +2,7 @@
 use Rattle.std.proofs.Common.{◌≡◌, ℕ, suc, ◌+◌, Bool, true, false, cond, List, [], ◌∷◌, ◌++◌, map, length, get_or, Some, None, Option, sym, refl, ap, ◌∙◌, subst, inl, inr, arith}
 use Rattle.std.proofs.ByRecursion.{All-append, All-push, All-map}
 use Rattle.std.proofs.lemmas.List.{append-nil, append_assoc, map-append, map_push, length_push}
-use Rattle.std.specs.List.{flat_map, AllByRecursion as All}
+use Rattle.std.specs.List.{flat_map, AllByRecursion}
 use Rattle.text.proofs.Contexts.{before, Shaped, Ranged, Lettered, Ordered, led, ranged}
 use Rattle.text.proofs.Cuts.{Plain}
 use Rattle.text.proofs.Glue.{glue, glue_pieces, glue_ended, pieces_ended}
@@ -27,7 +27,7 @@ pub record Reached (done : List (List ℕ)) (s : Stage) (d : Document) : Type 0 
   pub shaped : Shaped s d
   pub ranged_is : Ranged s d
   pub text : done ≡ map entry_text (before s d)
-  pub legible : All Legible (before s d)
+  pub legible : AllByRecursion Legible (before s d)
 
 nothing : Reached [] AtTitle first.sofar
 nothing =
@@ -50,7 +50,7 @@ begin_states d [] e f l s =
     (smallest d.letters, map entry_text (State no_state ∷ Heading ∷ []), smallest_ranged d l, refl)
 begin_states d (x ∷ ss) e f l s =
     let n : length d.states ≡ suc (length ss) = ap length e in
-    (d, entry_text Heading ∷ [], record { size = omega arith; in_turn = s.in_turn; steps_fit = subst (All (StepFits d.letters (length d.states))) (sym f) tt }, ap (λ y. map entry_text (Title ∷ Count d.letters ∷ Columns ∷ (map State y ++ Heading ∷ map Step d.steps))) e ∙ ap (λ y. map entry_text (Title ∷ Count d.letters ∷ Columns ∷ (map State (x ∷ ss) ++ Heading ∷ map Step y))) f ∙ ap (λ y. entry_text Title ∷ entry_text (Count d.letters) ∷ entry_text Columns ∷ y) (map-append entry_text (map State (x ∷ ss)) (Heading ∷ [])))
+    (d, entry_text Heading ∷ [], record { size = omega arith; in_turn = s.in_turn; steps_fit = subst (AllByRecursion (StepFits d.letters (length d.states))) (sym f) tt }, ap (λ y. map entry_text (Title ∷ Count d.letters ∷ Columns ∷ (map State y ++ Heading ∷ map Step d.steps))) e ∙ ap (λ y. map entry_text (Title ∷ Count d.letters ∷ Columns ∷ (map State (x ∷ ss) ++ Heading ∷ map Step y))) f ∙ ap (λ y. entry_text Title ∷ entry_text (Count d.letters) ∷ entry_text Columns ∷ y) (map-append entry_text (map State (x ∷ ss)) (Heading ∷ [])))
 
 lettered_one : Lettered (smallest 1)
 lettered_one = record { some = omega arith; few = omega arith }
@@ -69,14 +69,14 @@ abbrev bare : ℕ → Document
 bare k = record { letters = k; states = []; steps = [] }
 
 -- or, in range or not, as a document that can be written
-begin_writable : (s : Stage) (d : Document) → Shaped s d → All Legible (before s d) → Begin Writable (map entry_text (before s d))
+begin_writable : (s : Stage) (d : Document) → Shaped s d → AllByRecursion Legible (before s d) → Begin Writable (map entry_text (before s d))
 begin_writable AtTitle d h l = (bare 1, lines_of (bare 1), (tt, (omega arith, (tt, (tt, tt)))), refl)
 begin_writable AtCount d h l =
     (bare 1, map entry_text (Count 1 ∷ Columns ∷ Heading ∷ []), (tt, (omega arith, (tt, (tt, tt)))), refl)
 begin_writable AtColumns d h l =
     (bare d.letters, map entry_text (Columns ∷ Heading ∷ []), (tt, (l.1.0, (tt, (tt, tt)))), refl)
 begin_writable AtStates d h l =
-    (d, entry_text Heading ∷ [], (tt, (l.1.0, (tt, All-append Legible (map State d.states) (Heading ∷ map Step d.steps) l.1.1.1 (tt, subst (λ y. All Legible (map Step y)) (sym h) tt)))), ap (λ y. map entry_text (Title ∷ Count d.letters ∷ Columns ∷ (map State d.states ++ Heading ∷ map Step y))) h ∙ ap (λ y. entry_text Title ∷ entry_text (Count d.letters) ∷ entry_text Columns ∷ y) (map-append entry_text (map State d.states) (Heading ∷ [])))
+    (d, entry_text Heading ∷ [], (tt, (l.1.0, (tt, All-append Legible (map State d.states) (Heading ∷ map Step d.steps) l.1.1.1 (tt, subst (λ y. AllByRecursion Legible (map Step y)) (sym h) tt)))), ap (λ y. map entry_text (Title ∷ Count d.letters ∷ Columns ∷ (map State d.states ++ Heading ∷ map Step y))) h ∙ ap (λ y. entry_text Title ∷ entry_text (Count d.letters) ∷ entry_text Columns ∷ y) (map-append entry_text (map State d.states) (Heading ∷ [])))
 begin_writable AtSteps d h l = (d, [], l, sym (append-nil (lines_of d)))
 
 -- One more line that was read as e.
@@ -88,10 +88,10 @@ module _ (done : List (List ℕ)) (s : Stage) (d : Document) (line : List ℕ) (
       ∙ sym (map_push entry_text (before s d) e)
       ∙ ap (map entry_text) (sym (led s d e i.belongs r.shaped).before_is)
 
-  legible_on : All Legible (before (after d e).stage (after d e).sofar)
+  legible_on : AllByRecursion Legible (before (after d e).stage (after d e).sofar)
   legible_on =
       let i = read_text s line e read in
-      subst (All Legible) (sym (led s d e i.belongs r.shaped).before_is)
+      subst (AllByRecursion Legible) (sym (led s d e i.belongs r.shaped).before_is)
       (All-push Legible (before s d) e r.legible i.legible)
 
   reach_on : fits d e ≡ true → Reached (done ++ line ∷ []) (after d e).stage (after d e).sofar
@@ -193,7 +193,7 @@ pub outcome : (text : List ℕ) → Outcome text (verdict text)
 unfolding nothing
 outcome text = told text (later 10 text) [] first (front 10 text) refl nothing
 
-all_plain : (es : List Entry) → All (λ e. Plain 10 (entry_text e)) es
+all_plain : (es : List Entry) → AllByRecursion (λ e. Plain 10 (entry_text e)) es
 all_plain [] = tt
 all_plain (e ∷ es) = (entry_plain e, all_plain es)
 

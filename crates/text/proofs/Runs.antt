@@ -3,7 +3,7 @@ use Rattle.std.proofs.Common.{◌≡◌, ℕ, suc, ◌+◌, ◌<◌, ◌≤◌, 
 use Rattle.std.proofs.ByRecursion.{All-append}
 use Rattle.std.proofs.lemmas.List.{append-nil, append_assoc, map-append, get_or_at}
 use Rattle.std.proofs.lemmas.Bool.{and_from, eq-eqb, le-leb, lt-ltb}
-use Rattle.std.specs.List.{AllByRecursion as All}
+use Rattle.std.specs.List.{AllByRecursion}
 use Rattle.text.proofs.Contexts.{Ordered}
 use Rattle.text.proofs.Readable.{count_read, state_read, step_read}
 use Rattle.text.proofs.Wordings.{none_some}
@@ -62,14 +62,14 @@ abbrev StatesPass : Bool → ℕ → List StateLine → List StateLine → Type 
 StatesPass b k old [] = Unit {0}
 StatesPass b k old (s ∷ ss) = ((b || fits (doc k old []) (State s)) ≡ true) × StatesPass b k (old ++ s ∷ []) ss
 
-states_run : (b : Bool) (k : ℕ) (todo old : List StateLine) (ls : List (List ℕ)) → All Legible (map State todo) → StatesPass b k old todo → run b (at AtStates (doc k old [])) (map entry_text (map State todo) ++ ls) ≡ run b (at AtStates (doc k (old ++ todo) [])) ls
+states_run : (b : Bool) (k : ℕ) (todo old : List StateLine) (ls : List (List ℕ)) → AllByRecursion Legible (map State todo) → StatesPass b k old todo → run b (at AtStates (doc k old [])) (map entry_text (map State todo) ++ ls) ≡ run b (at AtStates (doc k (old ++ todo) [])) ls
 states_run b k [] old ls h p = ap (λ x. run b (at AtStates (doc k x [])) ls) (sym (append-nil old))
 states_run b k (s ∷ ss) old ls h p =
     run_one b AtStates (doc k old []) (entry_text (State s)) (State s) (map entry_text (map State ss) ++ ls) (state_read s h.0) p.0
     ∙ states_run b k ss (old ++ s ∷ []) ls h.1 p.1
     ∙ ap (λ x. run b (at AtStates (doc k x [])) ls) (append_assoc old (s ∷ []) ss)
 
-steps_run : (b : Bool) (k : ℕ) (ss : List StateLine) (todo old : List StepLine) → All Legible (map Step todo) → All (λ t. (b || step_fits k (length ss) t) ≡ true) todo → run b (at AtSteps (doc k ss old)) (map entry_text (map Step todo)) ≡ Some (at AtSteps (doc k ss (old ++ todo)))
+steps_run : (b : Bool) (k : ℕ) (ss : List StateLine) (todo old : List StepLine) → AllByRecursion Legible (map Step todo) → AllByRecursion (λ t. (b || step_fits k (length ss) t) ≡ true) todo → run b (at AtSteps (doc k ss old)) (map entry_text (map Step todo)) ≡ Some (at AtSteps (doc k ss (old ++ todo)))
 steps_run b k ss [] old h p = ap (λ x. Some (at AtSteps (doc k ss x))) (sym (append-nil old))
 steps_run b k ss (t ∷ ts) old h p =
     run_one b AtSteps (doc k ss old) (entry_text (Step t)) (Step t) (map entry_text (map Step ts)) (step_read t h.0) p.0
@@ -82,13 +82,13 @@ record Passes (b : Bool) (d : Document) : Type 0 where
   title : (b || true) ≡ true
   states : StatesPass b d.letters [] d.states
   heading : (b || leb 1 (length d.states)) ≡ true
-  steps : All (λ t. (b || step_fits d.letters (length d.states) t) ≡ true) d.steps
+  steps : AllByRecursion (λ t. (b || step_fits d.letters (length d.states) t) ≡ true) d.steps
 
-all_parts : (xs ys : List Entry) → All Legible (xs ++ ys) → All Legible xs × All Legible ys
+all_parts : (xs ys : List Entry) → AllByRecursion Legible (xs ++ ys) → AllByRecursion Legible xs × AllByRecursion Legible ys
 all_parts [] ys h = (tt, h)
 all_parts (x ∷ xs) ys h = let p = all_parts xs ys h.1 in ((h.0, p.0), p.1)
 
-complete : (b : Bool) (d : Document) → All Legible (entries d) → Passes b d → run b first (lines_of d) ≡ Some (at AtSteps d)
+complete : (b : Bool) (d : Document) → AllByRecursion Legible (entries d) → Passes b d → run b first (lines_of d) ≡ Some (at AtSteps d)
 complete b d h p =
     let k = d.letters in
     let l = all_parts (map State d.states) (Heading ∷ map Step d.steps) h.1.1.1 in
@@ -106,12 +106,12 @@ loose_states : (k : ℕ) (old todo : List StateLine) → StatesPass true k old t
 loose_states k old [] = tt
 loose_states k old (s ∷ ss) = (refl, loose_states k (old ++ s ∷ []) ss)
 
-loose_steps : (k n : ℕ) (ts : List StepLine) → All (λ t. (true || step_fits k n t) ≡ true) ts
+loose_steps : (k n : ℕ) (ts : List StepLine) → AllByRecursion (λ t. (true || step_fits k n t) ≡ true) ts
 loose_steps k n [] = tt
 loose_steps k n (t ∷ ts) = (refl, loose_steps k n ts)
 
 -- a document that can be written runs through, whatever its range
-pub complete_loose : (d : Document) → All Legible (entries d) → run true first (lines_of d) ≡ Some (at AtSteps d)
+pub complete_loose : (d : Document) → AllByRecursion Legible (entries d) → run true first (lines_of d) ≡ Some (at AtSteps d)
 complete_loose d h =
     complete true d h
     (record {
@@ -141,13 +141,13 @@ by_passes : (k : ℕ) (b : By) → ByFits k b → fits_by k b ≡ true
 by_passes k (Letter i) h = lt-ltb i k h
 by_passes k Every h = refl
 
-strict_steps : (k n : ℕ) (ts : List StepLine) → All (StepFits k n) ts → All (λ t. (false || step_fits k n t) ≡ true) ts
+strict_steps : (k n : ℕ) (ts : List StepLine) → AllByRecursion (StepFits k n) ts → AllByRecursion (λ t. (false || step_fits k n t) ≡ true) ts
 strict_steps k n [] h = tt
 strict_steps k n (t ∷ ts) h =
     (and_from (ltb t.from n) (fits_by k t.by && ltb t.to n) (lt-ltb t.from n h.0.0) (and_from (fits_by k t.by) (ltb t.to n) (by_passes k t.by h.0.1) (lt-ltb t.to n h.0.2)), strict_steps k n ts h.1)
 
 -- a document in range runs through strictly
-pub complete_strict : (d : Document) → All Legible (entries d) → InRange d → run false first (lines_of d) ≡ Some (at AtSteps d)
+pub complete_strict : (d : Document) → AllByRecursion Legible (entries d) → InRange d → run false first (lines_of d) ≡ Some (at AtSteps d)
 complete_strict d h r =
     complete false d h
     (record {
@@ -159,7 +159,7 @@ complete_strict d h r =
     })
 
 -- what is in range can be written
-legible_states : (all : List StateLine) → Ordered all → (todo old : List StateLine) → old ++ todo ≡ all → All Legible (map State todo)
+legible_states : (all : List StateLine) → Ordered all → (todo old : List StateLine) → old ++ todo ≡ all → AllByRecursion Legible (map State todo)
 legible_states all o [] old e = tt
 legible_states all o (s ∷ ss) old e =
     let n = next_state all o old s ss e in
@@ -169,14 +169,14 @@ legible_by : (k : ℕ) (b : By) → k ≤ 16 → ByFits k b → LegibleBy b
 legible_by k (Letter i) h f = omega arith
 legible_by k Every h f = tt
 
-legible_steps : (k n : ℕ) (ts : List StepLine) → k ≤ 16 → n ≤ 32 → All (StepFits k n) ts → All Legible (map Step ts)
+legible_steps : (k n : ℕ) (ts : List StepLine) → k ≤ 16 → n ≤ 32 → AllByRecursion (StepFits k n) ts → AllByRecursion Legible (map Step ts)
 legible_steps k n [] hk hn h = tt
 legible_steps k n (t ∷ ts) hk hn h =
     let a = h.0.0 in
     let b = h.0.2 in
     ((omega arith, legible_by k t.by hk h.0.1, omega arith), legible_steps k n ts hk hn h.1)
 
-pub legible_range : (d : Document) → InRange d → All Legible (entries d)
+pub legible_range : (d : Document) → InRange d → AllByRecursion Legible (entries d)
 legible_range d r =
     let f = r.size.few_letters in
     (tt, (omega arith, (tt, All-append Legible (map State d.states) (Heading ∷ map Step d.steps) (legible_states d.states (record { few = r.size.few_states; in_turn = r.in_turn }) d.states [] refl) (tt, legible_steps d.letters (length d.states) d.steps r.size.few_letters r.size.few_states r.steps_fit))))
