@@ -1,5 +1,5 @@
-// Tells how long searches take. Run it as `target/bin/timing figures`, once `rt check timing` has made it. Without that word
-// it prints nothing, since figures differ from run to run.
+// Tells how long searches take. Run it as `out/timing figures` in this crate's folder, once `rt run` has made it. Without
+// that word it prints nothing, since figures differ from run to run.
 #![tactic(auto)]
 
 mod bands;
