@@ -1,4 +1,4 @@
--- Past the rows, getD gives its default.
+-- Past the rows, the look-up gives its default.
 use Rattle.std.proofs.Common.{sym}
 use Rattle.std.proofs.lemmas.List.{get_or_past}
 use Rattle.search_tests.proofs.sheets.row.Goals as goal
