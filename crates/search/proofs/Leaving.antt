@@ -16,7 +16,7 @@ use Rattle.search.proofs.Pushes.{tree_leave}
 use Rattle.search.proofs.Steps.{tree_seen}
 
 -- the parent of the current place, on a stack of more than one
-pub parent_of : (g : Graph) (s top cur found_from_lem : ℕ) (was : List Record) → Searching g s top cur found_from_lem was → 0 < cur
+pub parent_of : (g : Graph) (s top cur from : ℕ) (was : List Record) → Searching g s top cur from was → 0 < cur
     → Under g (letter_at was) (up_at was cur) cur
 parent_of g s top cur from was q pos = (q.tree.under cur (inl refl) pos q.tree.inside).0
 
