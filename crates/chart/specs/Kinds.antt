@@ -1,7 +1,6 @@
 -- What each kind of chart means.
-use Rattle.std.specs.Prelude.{◌≡◌, ℕ, ◌+◌, ◌-◌, ◌*◌, ◌/◌, ◌%◌, ◌^◌, ◌≤◌, min, max, Bool, false, ◌&&◌, ◌||◌, List, ◌==◌, nat_le, nat_lt, slice_index}
+use Rattle.std.specs.Prelude.{◌≡◌, ℕ, ◌+◌, ◌-◌, ◌*◌, ◌/◌, ◌%◌, ◌^◌, ◌≤◌, Bool, false, ◌&&◌, ◌||◌, List, ◌==◌, nat_le, nat_lt, slice_index}
 use Rattle.chart.specs.Automata.{Automaton}
-use Rattle.chart.specs.declared.sizes.Size.{Size}
 
 -- The automaton with n states and k letters that agrees with m there, and says no outside.
 abbrev pub fitted : ℕ → ℕ → Automaton → Automaton
@@ -13,17 +12,6 @@ fitted n k m =
       mark = λ q. nat_lt q n && m.mark q;
       step = λ p i q. nat_lt p n && (nat_lt i k && (nat_lt q n && m.step p i q));
     }
-
--- A size's numbers. Charts are made with sizes within the limits; any other counts as the nearest that is.
-abbrev pub states_of : Size → ℕ
-states_of s = max 1 (min 32 s.states)
-
-abbrev pub letters_of : Size → ℕ
-letters_of s = max 1 (min 16 s.letters)
-
--- an automaton fitted to a size
-abbrev pub sized : Size → Automaton → Automaton
-sized s m = fitted (states_of s) (letters_of s) m
 
 -- q is a member of the set that the bits of x are, bit 0 the lowest
 abbrev pub bit : ℕ → ℕ → Bool

@@ -5,6 +5,12 @@ use Rattle.chart.specs.Kinds.{Unites}
 use Rattle.fault.specs.declared.ChartFault.{ChartFault}
 use Rattle.fault.specs.declared.ChartFault.TheVariants.{Text, FewRows, Limits}
 
+-- a chart's size of n states and k letters
+abbrev pub SizeRefused : ℕ → ℕ → ChartFault → Type 0
+SizeRefused n k (Text e) = ⊥
+SizeRefused n k FewRows = ⊥
+SizeRefused n k Limits = Allowed n k → ⊥
+
 -- a table chart of n states and k letters over so many rows
 abbrev pub TableRefused : ℕ → ℕ → ℕ → ChartFault → Type 0
 TableRefused n k rows (Text e) = ⊥

@@ -1,9 +1,5 @@
 // A chart with its two numbers kept beside it, so that the layers above can speak of plain numbers, and asking for
 // one asks nothing of the chart.
-ghost use Rattle.std.specs.Prelude.{◌≡◌};
-ghost use Rattle.chart.specs.Fits.{sized_limits};
-ghost use Rattle.chart.specs.Meanings.{fitted_of};
-
 use crate::interface::Chart;
 use crate::sizes::Size;
 
@@ -14,36 +10,38 @@ pub struct Fitted<C> {
 }
 
 impl<C: Chart> Chart for Fitted<C> {
+    ghost use Rattle.chart.specs.Fits.{fitted_of_limits};
+    ghost use Rattle.chart.specs.Meanings.{fitted_of};
+
     ghost meaning = { fitted_of C.Chart.meaning };
 
-    ghost limits = { λ f. sized_limits f.size (C.Chart.meaning f.chart) };
+    ghost limits = { fitted_of_limits C.Chart.meaning };
 
     fn states(&self) -> u8 {
-        self.size.states()
+        self.size.states
     }
 
     fn letters(&self) -> u8 {
-        self.size.letters()
+        self.size.letters
     }
 
     fn is_start(&self, q: u8) -> bool {
-        q < self.size.states() && self.chart.is_start(q)
+        q < self.size.states && self.chart.is_start(q)
     }
 
     fn is_marked(&self, q: u8) -> bool {
-        q < self.size.states() && self.chart.is_marked(q)
+        q < self.size.states && self.chart.is_marked(q)
     }
 
     fn has_step(&self, p: u8, i: u8, q: u8) -> bool {
-        let n = self.size.states();
-        if p >= n || i >= self.size.letters() || q >= n {
-            return false;
-        }
-        self.chart.has_step(p, i, q)
+        self.size.admits(p, i, q) && self.chart.has_step(p, i, q)
     }
 }
 
 impl<C: Chart> Fitted<C> {
+    ghost use Rattle.std.specs.Prelude.{◌≡◌};
+    ghost use Rattle.chart.specs.Meanings.{fitted_of};
+
     // It means what the chart means, and keeps the chart's numbers.
     pub fn new(chart: C) -> Fitted<C>
         ensures means { fitted_of C.Chart.meaning result ≡ C.Chart.meaning chart }

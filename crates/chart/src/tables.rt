@@ -1,8 +1,8 @@
 // A table chart: it reads its steps from rows that the caller lends.
-ghost use Rattle.std.specs.Prelude.{◌≡◌, ◌*◌, ◌<◌, ◌≤◌, length, MatchResult, slice_index};
+ghost use Rattle.std.specs.Prelude.{◌≡◌, ◌+◌, ◌*◌, ◌<◌, ◌≤◌, length, MatchResult, slice_index};
 ghost use Rattle.chart.specs.Automata.{Allowed};
-ghost use Rattle.chart.specs.Fits.{sized_limits};
-ghost use Rattle.chart.specs.Kinds.{table, rowwise, states_of, letters_of};
+ghost use Rattle.chart.specs.Fits.{fitted_limits};
+ghost use Rattle.chart.specs.Kinds.{bit, table, rowwise};
 ghost use Rattle.chart.specs.Refused.{TableRefused};
 ghost use Rattle.chart.specs.Meanings.{table_of};
 
@@ -21,32 +21,26 @@ pub struct Table<'a> {
 impl<'a> Chart for Table<'a> {
     ghost meaning = { table_of };
 
-    ghost limits = { λ t. sized_limits t.size (rowwise (states_of t.size) (letters_of t.size) t.starts t.marks t.rows.now) };
+    ghost limits = { λ t. fitted_limits t.size.states t.size.letters (rowwise t.size.states t.size.letters t.starts t.marks t.rows.now) t.size.allowed };
 
     fn states(&self) -> u8 {
-        self.size.states()
+        self.size.states
     }
 
     fn letters(&self) -> u8 {
-        self.size.letters()
+        self.size.letters
     }
 
     fn is_start(&self, q: u8) -> bool {
-        q < self.size.states() && (self.starts >> q) % 2 == 1
+        q < self.size.states && contains(self.starts, q)
     }
 
     fn is_marked(&self, q: u8) -> bool {
-        q < self.size.states() && (self.marks >> q) % 2 == 1
+        q < self.size.states && contains(self.marks, q)
     }
 
     fn has_step(&self, p: u8, i: u8, q: u8) -> bool {
-        let n = self.size.states();
-        let k = self.size.letters();
-        if p >= n || i >= k || q >= n {
-            return false;
-        }
-        let row = self.row(p as usize * k as usize + i as usize);
-        (row >> q) % 2 == 1
+        self.size.admits(p, i, q) && contains(self.row(p, i), q)
     }
 }
 
@@ -61,13 +55,10 @@ impl<'a> Table<'a> {
     ) -> Result<Table<'a>, ChartFault>
         ensures { MatchResult result (λ t. Allowed states letters × (states * letters ≤ length rows.now) × (table_of t ≡ table states letters starts marks rows.now)) (TableRefused states letters (length rows.now)) }
     {
-        if states < 1 || states > 32 || letters < 1 || letters > 16 {
-            return Err(ChartFault::Limits);
-        }
+        let size = Size::new(states, letters)?;
         if rows.len() < states as usize * letters as usize {
             return Err(ChartFault::FewRows);
         }
-        let size = Size { states, letters };
         Ok(Table {
             size,
             starts,
@@ -76,14 +67,19 @@ impl<'a> Table<'a> {
         })
     }
 
-    // Row at; past the rows no state is stepped to.
-    fn row(&self, at: usize) -> u32
-        ensures { result ≡ slice_index self.now.rows.now at }
+    // The row of state p and letter i; past the rows no state is stepped to.
+    fn row(&self, p: u8, i: u8) -> u32
+        ensures { result ≡ slice_index self.now.rows.now (p * self.now.size.letters + i) }
     {
-        if at < self.rows.len() {
-            self.rows[at]
-        } else {
-            0
-        }
+        let at = p as usize * self.size.letters as usize + i as usize;
+        self.rows.get(at).copied().unwrap_or(0)
     }
+}
+
+// Is q a member of the set that the bits are, bit 0 the lowest?
+fn contains(set: u32, q: u8) -> bool
+    requires { q < 32 }
+    ensures { result ≡ bit set q }
+{
+    (set >> q) % 2 == 1
 }

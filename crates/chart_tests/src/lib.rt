@@ -4,7 +4,7 @@
 #[cfg(test)]
 mod tests {
     use chart::{Chart, Fitted, Table, Union};
-    use fault::{ChartFault, TextFault};
+    use fault::{ChartFault, Fault, TextFault};
     use std::test::Fail;
 
     // The number that a table of n states and k letters is refused by, or 0.
@@ -26,35 +26,30 @@ mod tests {
         }
     }
 
-    // The starts among the states below 40, as the bits of a number; then the marks, and where steps lead to.
-    fn starts<C: Chart>(c: &C) -> u64 {
+    // The states below 40 of which it holds, as the bits of a number.
+    fn set_of<F: Fn(u8) -> bool>(has: F) -> u64
+        requires { F.IsAlwaysCallable has }
+    {
         let mut set = 0;
         for q in 0..40u8 {
-            if c.is_start(q) {
+            if has(q) {
                 set |= 1 << q;
             }
         }
         set
+    }
+
+    fn starts<C: Chart>(c: &C) -> u64 {
+        set_of(|q| c.is_start(q))
     }
 
     fn marks<C: Chart>(c: &C) -> u64 {
-        let mut set = 0;
-        for q in 0..40u8 {
-            if c.is_marked(q) {
-                set |= 1 << q;
-            }
-        }
-        set
+        set_of(|q| c.is_marked(q))
     }
 
+    // The states that steps lead to.
     fn steps<C: Chart>(c: &C, p: u8, i: u8) -> u64 {
-        let mut set = 0;
-        for q in 0..40u8 {
-            if c.has_step(p, i, q) {
-                set |= 1 << q;
-            }
-        }
-        set
+        set_of(|q| c.has_step(p, i, q))
     }
 
     // 2 states and letters: 0 is the start, 1 is marked; a leads from 0 to 1 and from 1 to both, b from 0 to 0.

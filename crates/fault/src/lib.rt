@@ -2,9 +2,23 @@
 #![tactic(auto)]
 
 ghost use Rattle.std.specs.Prelude.{◌≡◌};
-ghost use Rattle.fault.specs.Refusals.{text_refusal, refusal, lasso_refusal, survey_refusal, member_refusal};
+ghost use Rattle.fault.specs.Refusals.{Refusal, text_refusal, refusal, lasso_refusal, survey_refusal, member_refusal};
 ghost use Rattle.fault.specs.declared.ChartFault.TheVariants.{Text};
 ghost use Rattle.fault.specs.declared.MemberFault.TheVariants.{Word, Search};
+
+// A fault of any layer, as its reader sees it.
+pub trait Fault {
+    // its number, and the line or place that it tells
+    ghost refusal: { Self → Refusal };
+
+    // The refusal's number.
+    fn number(&self) -> u8
+        ensures { result ≡ (refusal self.now).number };
+
+    // The line or place that it tells, or 0.
+    fn place(&self) -> usize
+        ensures { result ≡ (refusal self.now).place };
+}
 
 // A chart's text is refused at a line, counted from 1; line 0 is the text as a whole.
 #[derive(Clone, Copy, PartialEq, Eq, Debug)]
@@ -13,6 +27,23 @@ pub enum TextFault {
     Form(usize),
     // the line has the right form, and names a number or letter out of range, or a state out of turn
     Range(usize),
+}
+
+impl Fault for TextFault {
+    ghost refusal = { text_refusal };
+
+    fn number(&self) -> u8 {
+        match *self {
+            TextFault::Form(_) => 1,
+            TextFault::Range(_) => 2,
+        }
+    }
+
+    fn place(&self) -> usize {
+        match *self {
+            TextFault::Form(line) | TextFault::Range(line) => line,
+        }
+    }
 }
 
 // A chart cannot be made.
@@ -34,31 +65,10 @@ impl From<TextFault> for ChartFault {
     }
 }
 
-impl TextFault {
-    fn number(&self) -> u8
-        ensures { result ≡ (text_refusal self.now).number }
-    {
-        match *self {
-            TextFault::Form(_) => 1,
-            TextFault::Range(_) => 2,
-        }
-    }
+impl Fault for ChartFault {
+    ghost refusal = { refusal };
 
-    fn place(&self) -> usize
-        ensures { result ≡ (text_refusal self.now).place }
-    {
-        match *self {
-            TextFault::Form(line) => line,
-            TextFault::Range(line) => line,
-        }
-    }
-}
-
-impl ChartFault {
-    // The refusal's number.
-    pub fn number(&self) -> u8
-        ensures { result ≡ (refusal self.now).number }
-    {
+    fn number(&self) -> u8 {
         match *self {
             ChartFault::Text(e) => e.number(),
             ChartFault::FewRows => 3,
@@ -66,10 +76,7 @@ impl ChartFault {
         }
     }
 
-    // The line or place that it tells, or 0.
-    pub fn place(&self) -> usize
-        ensures { result ≡ (refusal self.now).place }
-    {
+    fn place(&self) -> usize {
         match *self {
             ChartFault::Text(e) => e.place(),
             ChartFault::FewRows | ChartFault::Limits => 0,
@@ -86,6 +93,22 @@ pub enum LassoFault {
     Letter,
 }
 
+impl Fault for LassoFault {
+    ghost refusal = { lasso_refusal };
+
+    fn number(&self) -> u8 {
+        match *self {
+            LassoFault::Limits | LassoFault::Letter => 8,
+        }
+    }
+
+    fn place(&self) -> usize {
+        match *self {
+            LassoFault::Limits | LassoFault::Letter => 0,
+        }
+    }
+}
+
 // The survey of a graph is refused.
 #[derive(Clone, Copy, PartialEq, Eq, Debug)]
 pub enum SearchFault {
@@ -93,6 +116,23 @@ pub enum SearchFault {
     Table,
     // the reachable nodes are more than the records of the work table
     Full,
+}
+
+impl Fault for SearchFault {
+    ghost refusal = { survey_refusal };
+
+    fn number(&self) -> u8 {
+        match *self {
+            SearchFault::Table => 7,
+            SearchFault::Full => 13,
+        }
+    }
+
+    fn place(&self) -> usize {
+        match *self {
+            SearchFault::Table | SearchFault::Full => 0,
+        }
+    }
 }
 
 // A question on words that a chart takes is refused.
@@ -120,37 +160,20 @@ impl From<SearchFault> for MemberFault {
     }
 }
 
-impl LassoFault {
-    // The refusal's number.
-    pub fn number(&self) -> u8
-        ensures { result ≡ (lasso_refusal self.now).number }
-    {
-        match *self {
-            LassoFault::Limits | LassoFault::Letter => 8,
-        }
-    }
-}
+impl Fault for MemberFault {
+    ghost refusal = { member_refusal };
 
-impl SearchFault {
-    // The refusal's number.
-    pub fn number(&self) -> u8
-        ensures { result ≡ (survey_refusal self.now).number }
-    {
-        match *self {
-            SearchFault::Table => 7,
-            SearchFault::Full => 13,
-        }
-    }
-}
-
-impl MemberFault {
-    // The refusal's number.
-    pub fn number(&self) -> u8
-        ensures { result ≡ (member_refusal self.now).number }
-    {
+    fn number(&self) -> u8 {
         match *self {
             MemberFault::Word(e) => e.number(),
             MemberFault::Search(e) => e.number(),
+        }
+    }
+
+    fn place(&self) -> usize {
+        match *self {
+            MemberFault::Word(e) => e.place(),
+            MemberFault::Search(e) => e.place(),
         }
     }
 }

@@ -1,5 +1,5 @@
 // How many elements a lasso may have, and where its loop may begin.
-use fault::LassoFault;
+use fault::{Fault, LassoFault};
 use std::alloc::{AllocError, Global};
 use std::test::Fail;
 

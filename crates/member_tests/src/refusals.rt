@@ -1,7 +1,7 @@
 // When the two questions are refused, and by what, in which order.
 use crate::samples::{BLANK, table};
 use chart::{Chart, Table};
-use fault::{LassoFault, MemberFault, SearchFault};
+use fault::{Fault, LassoFault, MemberFault, SearchFault};
 use member::{Record, empty, member};
 use std::test::Fail;
 

@@ -4,7 +4,7 @@ ghost use Rattle.report.specs.Reports.{Reads, FileRefused, Reports};
 ghost use Rattle.report.specs.declared.reports.Report.TheVariants.{Refused};
 ghost use Rattle.report.specs.Shown.{side_text, sizes_text, refusal_text, report_text};
 
-use fault::{ChartFault, TextFault};
+use fault::{ChartFault, Fault, TextFault};
 use std::fmt;
 use text::load;
 

@@ -1,7 +1,7 @@
 // Tables of every length: 7 for one with no record or too many, 13 for one with too few for the nodes.
 use crate::samples::USED;
 use crate::{Ends, Sheet};
-use fault::SearchFault;
+use fault::{Fault, SearchFault};
 use graph::Map;
 use search::{Record, check_table, survey};
 use std::alloc::{AllocError, Global};

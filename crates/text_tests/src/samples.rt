@@ -1,4 +1,5 @@
 // A text to alter, and what it is then refused by.
+use fault::Fault;
 use std::alloc::{AllocError, Global};
 use std::process::Abort;
 use std::test::Fail;
