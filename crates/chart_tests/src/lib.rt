@@ -9,10 +9,8 @@ mod tests {
 
     // The number that a table of n states and k letters is refused by, or 0.
     fn refused(n: u8, k: u8, rows: &[u32]) -> u8 {
-        match Table::new(n, k, 0, 0, rows) {
-            Ok(_) => 0,
-            Err(e) => e.number(),
-        }
+        let made = Table::new(n, k, 0, 0, rows);
+        made.err().map_or(0, |e| e.number())
     }
 
     // The number that a union of tables of so many states and letters is refused by, or 0.
@@ -20,10 +18,8 @@ mod tests {
         let rows = [0; 64];
         let first = Table::new(n, k, 0, 0, &rows)?;
         let second = Table::new(m, l, 0, 0, &rows)?;
-        match Union::new(first, second) {
-            Ok(_) => Ok(0),
-            Err(e) => Ok(e.number()),
-        }
+        let made = Union::new(first, second);
+        Ok(made.err().map_or(0, |e| e.number()))
     }
 
     // The states below 40 of which it holds, as the bits of a number.
