@@ -2,6 +2,8 @@
 #![tactic(auto)]
 
 use report::{LIMIT, read_texts};
+use std::alloc::Global;
+use std::fs::Files;
 use std::io::{ErrorKind, Read};
 use std::{fs, io};
 
@@ -9,28 +11,21 @@ use std::{fs, io};
 const MOST: u64 = LIMIT as u64 + 1;
 
 // The first bytes of a file; a missing file is an empty text.
-fn read_file(rt: &HostRuntime, path: &str) -> io::Result<Vec<u8>> {
-    let mut bytes = Vec::new(rt.alloc());
-    match fs::open(rt, path) {
-        Ok(file) => {
-            file.take(MOST).read_to_end(&mut bytes)?;
-        }
-        Err(e) => {
-            if e.kind() != ErrorKind::NotFound {
-                return Err(e);
-            }
-        }
-    }
+fn read_file(files: &impl Files, heap: Global, path: &str) -> io::Result<Vec<u8>> {
+    let mut bytes = Vec::new(heap);
+    let file = match fs::open(files, path) {
+        Ok(file) => file,
+        Err(e) if e.kind() == ErrorKind::NotFound => return Ok(bytes),
+        Err(e) => return Err(e),
+    };
+    file.take(MOST).read_to_end(&mut bytes)?;
     Ok(bytes)
 }
 
-fn run(rt: &HostRuntime) -> anyhow::Result<()> {
-    let duty = read_file(rt, "duty.chart")?;
-    let rule = read_file(rt, "rule.chart")?;
+fn main(rt: HostRuntime) -> anyhow::Result<()> {
+    let heap = rt.alloc();
+    let duty = read_file(&rt, heap, "duty.chart")?;
+    let rule = read_file(&rt, heap, "rule.chart")?;
     rt.print(read_texts(&duty, &rule))?;
     Ok(())
-}
-
-fn main(rt: HostRuntime) -> anyhow::Result<()> {
-    run(&rt)
 }

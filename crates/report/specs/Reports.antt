@@ -1,5 +1,5 @@
 -- What a report on two texts says.
-use Rattle.std.specs.Prelude.{◌≡◌, ℕ, ◌<◌, ◌≤◌, ◌⊎◌, List, length}
+use Rattle.std.specs.Prelude.{◌≡◌, ℕ, ◌<◌, ◌≤◌, ◌⊎◌, List, length, MatchResult}
 use Rattle.chart.specs.Automata.{Automaton}
 use Rattle.fault.specs.declared.ChartFault.{ChartFault}
 use Rattle.fault.specs.declared.ChartFault.TheVariants.{Text, FewRows, Limits}
@@ -7,10 +7,16 @@ use Rattle.fault.specs.declared.TextFault.TheVariants.{Form}
 use Rattle.text.specs.Documents.{Tells}
 use Rattle.text.specs.Refused.{TextRefused}
 use Rattle.report.specs.declared.reports.Numbers.{Numbers}
+use Rattle.report.specs.declared.reports.Refusal.{Refusal}
 use Rattle.report.specs.declared.reports.Report.{Report}
-use Rattle.report.specs.declared.reports.Report.TheVariants.{Read, Refused}
 use Rattle.report.specs.declared.reports.Side.{Side}
 use Rattle.report.specs.declared.reports.Side.TheVariants.{Duty, Rule}
+use Rattle.report.specs.declared.reports.Sizes.{Sizes}
+use Rattle.text.specs.declared.loading.Loaded.{Loaded}
+
+-- the numbers of states and letters of a chart that was loaded
+abbrev pub numbers_of : Loaded → Numbers
+numbers_of l = record { states = l.states; letters = l.letters }
 
 -- a file of at most 8,192 bytes tells a chart of these numbers
 pub record Reads (text : List ℕ) (n : Numbers) : Type 0 where
@@ -31,6 +37,11 @@ abbrev pub RefusedAt : List ℕ → List ℕ → Side → ChartFault → Type 0
 RefusedAt duty rule Duty e = FileRefused duty e
 RefusedAt duty rule Rule e = ((d : Numbers) × Reads duty d) × FileRefused rule e
 
+abbrev pub ReadsBoth : List ℕ → List ℕ → Sizes → Type 0
+ReadsBoth duty rule s = Reads duty s.duty × Reads rule s.rule
+
+abbrev pub FirstRefused : List ℕ → List ℕ → Refusal → Type 0
+FirstRefused duty rule r = RefusedAt duty rule r.side r.fault
+
 abbrev pub Reports : List ℕ → List ℕ → Report → Type 0
-Reports duty rule (Read s) = Reads duty s.duty × Reads rule s.rule
-Reports duty rule (Refused r) = RefusedAt duty rule r.side r.fault
+Reports duty rule r = MatchResult r.0 (ReadsBoth duty rule) (FirstRefused duty rule)

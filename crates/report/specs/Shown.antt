@@ -1,10 +1,9 @@
 -- The bytes of a report: a line of names, and a line or two of values.
-use Rattle.std.specs.Prelude.{ℕ, List, [], ◌∷◌, ◌++◌, codes, decimal}
+use Rattle.std.specs.Prelude.{ℕ, List, [], ◌∷◌, ◌++◌, Ok, Err, Result, codes, decimal}
 use Rattle.fault.specs.Refusals.{refusal}
 use Rattle.report.specs.declared.reports.Numbers.{Numbers}
 use Rattle.report.specs.declared.reports.Refusal.{Refusal}
 use Rattle.report.specs.declared.reports.Report.{Report}
-use Rattle.report.specs.declared.reports.Report.TheVariants.{Read, Refused}
 use Rattle.report.specs.declared.reports.Side.{Side}
 use Rattle.report.specs.declared.reports.Side.TheVariants.{Duty, Rule}
 use Rattle.report.specs.declared.reports.Sizes.{Sizes}
@@ -29,6 +28,9 @@ refusal_text r =
     line (codes "refused") (codes "at") (codes "place")
     (line (decimal (refusal r.fault).number) (side_text r.side) (decimal (refusal r.fault).place) [])
 
+abbrev pub result_text : Result Sizes Refusal → List ℕ
+result_text (Ok s) = sizes_text s
+result_text (Err r) = refusal_text r
+
 abbrev pub report_text : Report → List ℕ
-report_text (Read s) = sizes_text s
-report_text (Refused r) = refusal_text r
+report_text r = result_text r.0

@@ -1,15 +1,14 @@
 // The two texts read, or the first refusal.
 ghost use Rattle.std.specs.Prelude.{◌≡◌, Some, MatchResult};
-ghost use Rattle.report.specs.Reports.{Reads, FileRefused, Reports};
-ghost use Rattle.report.specs.declared.reports.Report.TheVariants.{Refused};
+ghost use Rattle.report.specs.Reports.{Reads, FileRefused, ReadsBoth, FirstRefused, Reports, numbers_of};
 ghost use Rattle.report.specs.Shown.{side_text, sizes_text, refusal_text, report_text};
 
 use fault::{ChartFault, Fault, TextFault};
 use std::fmt;
-use text::load;
+use text::{Loaded, load};
 
 // Which of the two charts.
-#[derive(Clone, Copy)]
+#[derive(Clone, Copy, PartialEq, Eq, Debug)]
 pub enum Side {
     // what the machine may do
     Duty,
@@ -18,40 +17,49 @@ pub enum Side {
 }
 
 // A chart's numbers of states and letters.
-#[derive(Clone, Copy)]
+#[derive(Clone, Copy, PartialEq, Eq, Debug)]
 pub struct Numbers {
     pub states: u8,
     pub letters: u8,
 }
 
 // Both charts are read.
-#[derive(Clone, Copy)]
+#[derive(Clone, Copy, PartialEq, Eq, Debug)]
 pub struct Sizes {
     pub duty: Numbers,
     pub rule: Numbers,
 }
 
 // A chart is refused.
-#[derive(Clone, Copy)]
+#[derive(Clone, Copy, PartialEq, Eq, Debug)]
 pub struct Refusal {
     pub side: Side,
     pub fault: ChartFault,
 }
 
-#[derive(Clone, Copy)]
-pub enum Report {
-    Read(Sizes),
-    Refused(Refusal),
+// What the program prints.
+#[derive(Clone, Copy, PartialEq, Eq, Debug)]
+pub struct Report(pub Result<Sizes, Refusal>);
+
+impl From<Loaded> for Numbers {
+    ghost from_gives = { λ l n. n ≡ numbers_of l };
+
+    fn from(chart: Loaded) -> Numbers {
+        Numbers {
+            states: chart.states,
+            letters: chart.letters,
+        }
+    }
 }
 
 impl fmt::Display for Side {
     ghost output = { λ s. Some (side_text s) };
 
     fn fmt<W: fmt::Write>(&self, f: &mut fmt::Formatter<W>) -> fmt::Result {
-        match *self {
-            Side::Duty => f.write_str("duty"),
-            Side::Rule => f.write_str("rule"),
-        }
+        f.write_str(match *self {
+            Side::Duty => "duty",
+            Side::Rule => "rule",
+        })
     }
 }
 
@@ -81,9 +89,9 @@ impl fmt::Display for Report {
     ghost output = { λ r. Some (report_text r) };
 
     fn fmt<W: fmt::Write>(&self, f: &mut fmt::Formatter<W>) -> fmt::Result {
-        match self {
-            Report::Read(sizes) => sizes.fmt(f),
-            Report::Refused(refusal) => refusal.fmt(f),
+        match &self.0 {
+            Ok(sizes) => sizes.fmt(f),
+            Err(refusal) => refusal.fmt(f),
         }
     }
 }
@@ -91,7 +99,7 @@ impl fmt::Display for Report {
 // The most bytes of a text.
 pub const LIMIT: usize = 8192;
 
-// The rows of the largest chart: 32 states times 16 letters.
+// The rows of the largest chart: 32 states times 16 letters. They are lent to the loader, which takes no heap.
 const ROWS: usize = 512;
 
 fn read_text(text: &[u8]) -> Result<Numbers, ChartFault>
@@ -101,29 +109,28 @@ fn read_text(text: &[u8]) -> Result<Numbers, ChartFault>
         return Err(ChartFault::Text(TextFault::Form(0)));
     }
     let mut rows = [0u32; ROWS];
-    let chart = load(text, &mut rows)?;
-    Ok(Numbers {
-        states: chart.states,
-        letters: chart.letters,
-    })
+    Ok(load(text, &mut rows)?.into())
 }
 
-fn refuse(side: Side, fault: ChartFault) -> Report
-    ensures { result ≡ Refused (record { side = side; fault = fault }) }
+// The text of one side.
+fn read_side(side: Side, text: &[u8]) -> Result<Numbers, Refusal>
+    ensures { MatchResult result (Reads text.now) (λ r. (r.side ≡ side) × FileRefused text.now r.fault) }
 {
-    Report::Refused(Refusal { side, fault })
+    read_text(text).map_err(|fault| Refusal { side, fault })
+}
+
+fn read_sizes(duty: &[u8], rule: &[u8]) -> Result<Sizes, Refusal>
+    ensures { MatchResult result (ReadsBoth duty.now rule.now) (FirstRefused duty.now rule.now) }
+{
+    Ok(Sizes {
+        duty: read_side(Side::Duty, duty)?,
+        rule: read_side(Side::Rule, rule)?,
+    })
 }
 
 // Reads the duty's text, then the rule's.
 pub fn read_texts(duty: &[u8], rule: &[u8]) -> Report
     ensures { Reports duty.now rule.now result }
 {
-    let duty = match read_text(duty) {
-        Ok(numbers) => numbers,
-        Err(e) => return refuse(Side::Duty, e),
-    };
-    match read_text(rule) {
-        Ok(rule) => Report::Read(Sizes { duty, rule }),
-        Err(e) => refuse(Side::Rule, e),
-    }
+    Report(read_sizes(duty, rule))
 }

@@ -1,9 +1,8 @@
 -- What was read up to a context, and that it can be gone on with.
-use Rattle.std.proofs.Common.{◌≡◌, ℕ, ◌<◌, ◌≤◌, true, ◌&&◌, eqb, ltb, leb, List, [], ◌∷◌, ◌++◌, map, length, get_or, sym, refl, ap, ◌∙◌, subst, ⊎_elim, arith}
-use Rattle.std.proofs.ByRecursion.{All-push}
+use Rattle.std.proofs.Common.{◌≡◌, ℕ, ◌<◌, ◌≤◌, true, ◌&&◌, eqb, ltb, leb, List, [], ◌∷◌, ◌++◌, All, map, length, get_or, sym, refl, ap, ◌∙◌, subst, ⊎_elim, arith}
 use Rattle.std.proofs.lemmas.List.{append_assoc, map_push, length_push, get_or_append_left, get_or_push}
+use Rattle.std.proofs.lemmas.List.Elements.{All-nil, All-push}
 use Rattle.std.proofs.lemmas.Bool.{and_parts, eqb-true, leb-true, ltb-true, cases_lt}
-use Rattle.std.specs.List.{AllByRecursion}
 use Rattle.text.proofs.Wordings.{Belongs}
 use Rattle.text.specs.Documents.{Document, entries, no_state, ByFits, StepFits, InRange}
 use Rattle.text.specs.Reading.{fits, after, fits_by}
@@ -129,7 +128,7 @@ heading_ranged d h r f =
             few_letters = r.0.few;
           };
       in_turn = r.1.in_turn;
-      steps_fit = subst (AllByRecursion (StepFits d.letters (length d.states))) (sym h) tt;
+      steps_fit = subst (All (StepFits d.letters (length d.states))) (sym h) (All-nil (StepFits d.letters (length d.states)));
     }
 
 by_fits : (k : ℕ) (b : By) → fits_by k b ≡ true → ByFits k b

@@ -3,7 +3,6 @@ pub mod Cells
 pub mod Contexts
 pub mod Cuts
 pub mod Fills
-pub mod Flags
 pub mod Glue
 pub mod Loadings
 pub mod Onwards

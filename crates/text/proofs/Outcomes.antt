@@ -1,14 +1,14 @@
 -- The verdict says what the text tells, or where and how it goes wrong.
-use Rattle.std.proofs.Common.{◌≡◌, ℕ, suc, ◌+◌, Bool, true, false, cond, List, [], ◌∷◌, ◌++◌, map, length, get_or, Some, None, Option, sym, refl, ap, ◌∙◌, subst, inl, inr, arith}
-use Rattle.std.proofs.ByRecursion.{All-append, All-push, All-map}
+use Rattle.std.proofs.Common.{◌≡◌, ℕ, suc, ◌+◌, ◌<◌, Bool, true, false, cond, List, [], ◌∷◌, ◌++◌, All, map, length, get_or, Some, None, Option, sym, refl, ap, ◌∙◌, subst, inl, inr, arith}
+use Rattle.std.proofs.lemmas.List.Elements.{All-nil, All-cons, All-append, All-push, All-map, All-from_recursion}
 use Rattle.std.proofs.lemmas.List.{append-nil, append_assoc, map-append, map_push, length_push}
-use Rattle.std.specs.List.{flat_map, AllByRecursion}
+use Rattle.std.specs.Option.{option_and_then}
+use Rattle.std.specs.List.{flat_map, join_with_byte}
 use Rattle.text.proofs.Contexts.{before, Shaped, Ranged, Lettered, Ordered, led, ranged}
 use Rattle.text.proofs.Cuts.{Plain}
-use Rattle.text.proofs.Glue.{glue, glue_pieces, glue_ended, pieces_ended}
+use Rattle.text.proofs.Glue.{glue_pieces, glue_ended, pieces_ended}
 use Rattle.text.proofs.Readable.{read_text, entry_plain}
-use Rattle.text.proofs.Runs.{step_by, and_then, run, run_from, run_one, complete_loose, complete_strict, legible_range, judge_run}
-use Rattle.text.proofs.Wordings.{none_some}
+use Rattle.text.proofs.Runs.{step_by, run, run_from, run_one, complete_loose, complete_strict, legible_range, judge_run}
 use Rattle.text.specs.Documents.{Document, entries, entry_text, lines_of, written, ended, Legible, no_state, StepFits, InRange}
 use Rattle.text.specs.Pieces.{front, later, pieces}
 use Rattle.text.specs.Reading.{Context, go, range, Verdict, fine, wrong_form, out_of_range, at, first, fits, after, taken, finish, onward, judge, verdict}
@@ -27,11 +27,11 @@ pub record Reached (done : List (List ℕ)) (s : Stage) (d : Document) : Type 0 
   pub shaped : Shaped s d
   pub ranged_is : Ranged s d
   pub text : done ≡ map entry_text (before s d)
-  pub legible : AllByRecursion Legible (before s d)
+  pub legible : All Legible (before s d)
 
 nothing : Reached [] AtTitle first.sofar
 nothing =
-    record { strict = refl; loose = refl; shaped = (refl, refl, refl); ranged_is = tt; text = refl; legible = tt }
+    record { strict = refl; loose = refl; shaped = (refl, refl, refl); ranged_is = tt; text = refl; legible = All-nil Legible }
 
 -- The smallest document, for k letters.
 abbrev smallest : ℕ → Document
@@ -42,7 +42,7 @@ smallest_ranged d l =
     record {
       size = omega arith;
       in_turn = λ q h. let e : q ≡ 0 = omega arith in subst (λ x. (get_or (no_state ∷ []) x no_state).number ≡ x) (sym e) refl;
-      steps_fit = tt;
+      steps_fit = All-nil (StepFits d.letters 1);
     }
 
 begin_states : (d : Document) (ss : List StateLine) → d.states ≡ ss → d.steps ≡ [] → Lettered d → Ordered d.states → Begin InRange (map entry_text (Title ∷ Count d.letters ∷ Columns ∷ map State ss))
@@ -50,7 +50,7 @@ begin_states d [] e f l s =
     (smallest d.letters, map entry_text (State no_state ∷ Heading ∷ []), smallest_ranged d l, refl)
 begin_states d (x ∷ ss) e f l s =
     let n : length d.states ≡ suc (length ss) = ap length e in
-    (d, entry_text Heading ∷ [], record { size = omega arith; in_turn = s.in_turn; steps_fit = subst (AllByRecursion (StepFits d.letters (length d.states))) (sym f) tt }, ap (λ y. map entry_text (Title ∷ Count d.letters ∷ Columns ∷ (map State y ++ Heading ∷ map Step d.steps))) e ∙ ap (λ y. map entry_text (Title ∷ Count d.letters ∷ Columns ∷ (map State (x ∷ ss) ++ Heading ∷ map Step y))) f ∙ ap (λ y. entry_text Title ∷ entry_text (Count d.letters) ∷ entry_text Columns ∷ y) (map-append entry_text (map State (x ∷ ss)) (Heading ∷ [])))
+    (d, entry_text Heading ∷ [], record { size = omega arith; in_turn = s.in_turn; steps_fit = subst (All (StepFits d.letters (length d.states))) (sym f) (All-nil (StepFits d.letters (length d.states))) }, ap (λ y. map entry_text (Title ∷ Count d.letters ∷ Columns ∷ (map State y ++ Heading ∷ map Step d.steps))) e ∙ ap (λ y. map entry_text (Title ∷ Count d.letters ∷ Columns ∷ (map State (x ∷ ss) ++ Heading ∷ map Step y))) f ∙ ap (λ y. entry_text Title ∷ entry_text (Count d.letters) ∷ entry_text Columns ∷ y) (map-append entry_text (map State (x ∷ ss)) (Heading ∷ [])))
 
 lettered_one : Lettered (smallest 1)
 lettered_one = record { some = omega arith; few = omega arith }
@@ -68,15 +68,18 @@ begin_range AtSteps d h r = (d, [], r, sym (append-nil (lines_of d)))
 abbrev bare : ℕ → Document
 bare k = record { letters = k; states = []; steps = [] }
 
+bare_legible : (k : ℕ) → k < 100 → Writable (bare k)
+bare_legible k h = All-from_recursion Legible (entries (bare k)) (tt, (h, (tt, (tt, tt))))
+
 -- or, in range or not, as a document that can be written
-begin_writable : (s : Stage) (d : Document) → Shaped s d → AllByRecursion Legible (before s d) → Begin Writable (map entry_text (before s d))
-begin_writable AtTitle d h l = (bare 1, lines_of (bare 1), (tt, (omega arith, (tt, (tt, tt)))), refl)
+begin_writable : (s : Stage) (d : Document) → Shaped s d → All Legible (before s d) → Begin Writable (map entry_text (before s d))
+begin_writable AtTitle d h l = (bare 1, lines_of (bare 1), bare_legible 1 (omega arith), refl)
 begin_writable AtCount d h l =
-    (bare 1, map entry_text (Count 1 ∷ Columns ∷ Heading ∷ []), (tt, (omega arith, (tt, (tt, tt)))), refl)
+    (bare 1, map entry_text (Count 1 ∷ Columns ∷ Heading ∷ []), bare_legible 1 (omega arith), refl)
 begin_writable AtColumns d h l =
-    (bare d.letters, map entry_text (Columns ∷ Heading ∷ []), (tt, (l.1.0, (tt, (tt, tt)))), refl)
+    (bare d.letters, map entry_text (Columns ∷ Heading ∷ []), bare_legible d.letters (l 1 Title (omega arith)), refl)
 begin_writable AtStates d h l =
-    (d, entry_text Heading ∷ [], (tt, (l.1.0, (tt, All-append Legible (map State d.states) (Heading ∷ map Step d.steps) l.1.1.1 (tt, subst (λ y. AllByRecursion Legible (map Step y)) (sym h) tt)))), ap (λ y. map entry_text (Title ∷ Count d.letters ∷ Columns ∷ (map State d.states ++ Heading ∷ map Step y))) h ∙ ap (λ y. entry_text Title ∷ entry_text (Count d.letters) ∷ entry_text Columns ∷ y) (map-append entry_text (map State d.states) (Heading ∷ [])))
+    (d, entry_text Heading ∷ [], All-append Legible (before AtStates d) (Heading ∷ map Step d.steps) l (All-cons Legible Heading (map Step d.steps) tt (subst (λ y. All Legible (map Step y)) (sym h) (All-nil Legible))), ap (λ y. map entry_text (Title ∷ Count d.letters ∷ Columns ∷ (map State d.states ++ Heading ∷ map Step y))) h ∙ ap (λ y. entry_text Title ∷ entry_text (Count d.letters) ∷ entry_text Columns ∷ y) (map-append entry_text (map State d.states) (Heading ∷ [])))
 begin_writable AtSteps d h l = (d, [], l, sym (append-nil (lines_of d)))
 
 -- One more line that was read as e.
@@ -88,10 +91,10 @@ module _ (done : List (List ℕ)) (s : Stage) (d : Document) (line : List ℕ) (
       ∙ sym (map_push entry_text (before s d) e)
       ∙ ap (map entry_text) (sym (led s d e i.belongs r.shaped).before_is)
 
-  legible_on : AllByRecursion Legible (before (after d e).stage (after d e).sofar)
+  legible_on : All Legible (before (after d e).stage (after d e).sofar)
   legible_on =
       let i = read_text s line e read in
-      subst (AllByRecursion Legible) (sym (led s d e i.belongs r.shaped).before_is)
+      subst (All Legible) (sym (led s d e i.belongs r.shaped).before_is)
       (All-push Legible (before s d) e r.legible i.legible)
 
   reach_on : fits d e ≡ true → Reached (done ++ line ∷ []) (after d e).stage (after d e).sofar
@@ -119,8 +122,8 @@ stopped b done s d line P through led stop begun =
     let rest = begun.1 in
     let e : run b first (done ++ (line ∷ rest)) ≡ Some (at AtSteps x) =
     ap (run b first) (sym (begun.3 ∙ append_assoc done (line ∷ []) rest)) ∙ through x begun.2 in
-    none_some (at AtSteps x)
-    (sym (ap (λ o. and_then o (λ k. run b k rest)) stop) ∙ sym (run_from b done (line ∷ rest) first (at s d) led) ∙ e)
+    cc
+    (sym (ap (option_and_then (λ k. run b k rest)) stop) ∙ sym (run_from b done (line ∷ rest) first (at s d) led) ∙ e)
 
 abbrev pub Outcome : List ℕ → Verdict → Type 0
 Outcome text (fine d) = InRange d × (written d ≡ text)
@@ -166,7 +169,7 @@ finished text done AtCount d line split r = record { reaches = reaches text done
 finished text done AtColumns d line split r = record { reaches = reaches text done AtColumns d line [] split r; wrong = inl refl }
 finished text done AtStates d line split r = record { reaches = reaches text done AtStates d line [] split r; wrong = inl refl }
 finished text done AtSteps d [] split r =
-    (r.ranged_is, sym (ap (flat_map ended) r.text) ∙ sym (glue_ended done) ∙ sym (ap (glue 10) split) ∙ glue_pieces 10 text)
+    (r.ranged_is, sym (ap (flat_map ended) r.text) ∙ sym (glue_ended done) ∙ sym (ap (join_with_byte 10) split) ∙ glue_pieces 10 text)
 finished text done AtSteps d (b ∷ line) split r = record { reaches = reaches text done AtSteps d (b ∷ line) [] split r; wrong = inl refl }
 
 abbrev Goes : List ℕ → List (List ℕ) → (Context → Verdict) → Type 0
@@ -176,7 +179,7 @@ module _ (text : List ℕ) (done : List (List ℕ)) (s : Stage) (d : Document) (
   fit_told : (b : Bool) (e : Entry) → read_entry s line ≡ Some e → fits d e ≡ b → Outcome text (onward (length done + 1) next (cond b (go (after d e)) range))
   fit_told true e read f = goes (after d e) (reach_on done s d line e read r f)
   fit_told false e read f =
-      no_range text done s d line (m ∷ ls) split r e read f (λ x. let z : ◌≡◌ {A = ℕ} 0 1 = cc in omega arith)
+      no_range text done s d line (m ∷ ls) split r e read f (λ x. cc)
 
   line_told : (o : Option Entry) → read_entry s line ≡ o → Outcome text (onward (length done + 1) next (taken d o))
   line_told None read = no_form text done s d line (m ∷ ls) split r read
@@ -193,12 +196,8 @@ pub outcome : (text : List ℕ) → Outcome text (verdict text)
 unfolding nothing
 outcome text = told text (later 10 text) [] first (front 10 text) refl nothing
 
-all_plain : (es : List Entry) → AllByRecursion (λ e. Plain 10 (entry_text e)) es
-all_plain [] = tt
-all_plain (e ∷ es) = (entry_plain e, all_plain es)
-
 -- the other way: a document in range is read as itself
 pub read_written : (d : Document) → InRange d → verdict (written d) ≡ fine d
 read_written d r =
-    ap (judge first 1) (pieces_ended (lines_of d) (All-map (Plain 10) entry_text (entries d) (all_plain (entries d))))
+    ap (judge first 1) (pieces_ended (lines_of d) (All-map (Plain 10) entry_text (entries d) (λ i e l. entry_plain (get_or (entries d) i e))))
     ∙ judge_run (lines_of d) first (at AtSteps d) 1 [] [] (complete_strict d (legible_range d r) r)

@@ -1,7 +1,8 @@
 -- At most one line of a text is its first wrong one, and for one reason.
-use Rattle.std.proofs.Common.{◌≡◌, ℕ, suc, ◌+◌, ◌<◌, List, [], ◌∷◌, ◌++◌, length, sym, refl, ap, ◌∙◌, subst, ⊎_elim, arith, length-append}
+use Rattle.std.proofs.Common.{◌≡◌, ℕ, suc, ◌+◌, ◌<◌, List, [], ◌∷◌, ◌++◌, length, take, drop, sym, ap, ◌∙◌, subst, ⊎_elim, arith, length-append}
 use Rattle.fault.specs.declared.TextFault.{TextFault}
 use Rattle.fault.specs.declared.TextFault.TheVariants.{Form, Range}
+use Rattle.std.proofs.Math.Seq.{take-append_seam, drop-append_seam}
 use Rattle.std.proofs.lemmas.List.{append_assoc}
 use Rattle.std.proofs.lemmas.Bool.{cases_order}
 use Rattle.text.proofs.Runs.{legible_range}
@@ -20,14 +21,12 @@ longer (a ∷ xs) (b ∷ ys) x y u v e h =
     (r.0, ap (λ z. z ∷ ys) (sym s) ∙ ap (λ z. a ∷ z) r.1)
 
 same_cut : {A : Type 0} (xs ys : List A) (x y : A) (u v : List A) → xs ++ x ∷ u ≡ ys ++ y ∷ v → length xs ≡ length ys → (xs ≡ ys) × (x ≡ y) × (u ≡ v)
-same_cut [] [] x y u v e h = let a : x ≡ y = cc in let b : u ≡ v = cc in (refl, a, b)
-same_cut [] (b ∷ ys) x y u v e h = absurd (omega arith)
-same_cut (a ∷ xs) [] x y u v e h = absurd (omega arith)
-same_cut (a ∷ xs) (b ∷ ys) x y u v e h =
-    let s : a ≡ b = cc in
-    let t : xs ++ x ∷ u ≡ ys ++ y ∷ v = cc in
-    let r = same_cut xs ys x y u v t (omega arith) in
-    (ap (λ z. z ∷ xs) s ∙ ap (λ z. b ∷ z) r.0, r.1, r.2)
+same_cut xs ys x y u v e h =
+    let s : xs ≡ ys =
+    sym (take-append_seam xs (x ∷ u)) ∙ ap (λ n. take n (xs ++ x ∷ u)) h ∙ ap (take (length ys)) e ∙ take-append_seam ys (y ∷ v) in
+    let t : x ∷ u ≡ y ∷ v =
+    sym (drop-append_seam xs (x ∷ u)) ∙ ap (λ n. drop n (xs ++ x ∷ u)) h ∙ ap (drop (length ys)) e ∙ drop-append_seam ys (y ∷ v) in
+    let a : x ≡ y = cc in let b : u ≡ v = cc in (s, a, b)
 
 begin_prefix : (P : Document → Type 0) (xs : List (List ℕ)) (x : List ℕ) (w : List (List ℕ)) → Begin P (xs ++ x ∷ w) → Begin P (xs ++ x ∷ [])
 begin_prefix P xs x w b =

@@ -2,7 +2,8 @@
 use Rattle.std.proofs.Common.{◌≡◌, ℕ, ◌+◌, ◌-◌, ◌*◌, ◌/◌, ◌%◌, ◌<◌, ◌≤◌, Bool, true, false, cond, ◌&&◌, eqb, leb, ◌⊎◌, List, [], ◌∷◌, ◌++◌, Some, None, Option, sym, refl, ap, ◌∙◌, subst, arith}
 use Rattle.std.proofs.lemmas.Slice.Eq.{bytes_eq-Decides}
 use Rattle.std.proofs.lemmas.Bool.{and_parts, leb-true, eqb-true, lt-ltb, le-ltb}
-use Rattle.text.proofs.Glue.{glue, glue_pieces}
+use Rattle.std.specs.List.{join_with_byte}
+use Rattle.text.proofs.Glue.{glue_pieces}
 use Rattle.text.specs.Documents.{digits, flag_text, by_text, LegibleBy}
 use Rattle.text.specs.Pieces.{pieces}
 use Rattle.text.specs.Words.{Word, number, letter, sign, name, within, is_sign, word_of, Three, three_of, three_words, numeral, flag, by_of, named, make_state, make_step}
@@ -88,9 +89,6 @@ is_word (b ∷ []) = one_byte b
 is_word (b ∷ c ∷ []) = two_bytes b c
 is_word (b ∷ c ∷ d ∷ w) = record { text = refl; fits = tt }
 
-pub none_some : {A : Type 0} (x : A) → ◌≡◌ {A = Option A} None (Some x) → ⊥
-none_some x e = let z : ◌≡◌ {A = ℕ} 0 1 = cc in omega arith
-
 -- a line of three words
 pub record IsThree (line : List ℕ) (t : Three) : Type 0 where
   pub text : line ≡ word_text t.first ++ 32 ∷ (word_text t.second ++ 32 ∷ word_text t.third)
@@ -98,10 +96,10 @@ pub record IsThree (line : List ℕ) (t : Three) : Type 0 where
   pub second : WordFits t.second
   pub third : WordFits t.third
 
-three_of_lem : (ws : List (List ℕ)) (line : List ℕ) (t : Three) → glue 32 ws ≡ line → three_of ws ≡ Some t → IsThree line t
-three_of_lem [] line t g e = absurd (none_some t e)
-three_of_lem (a ∷ []) line t g e = absurd (none_some t e)
-three_of_lem (a ∷ b ∷ []) line t g e = absurd (none_some t e)
+three_of_lem : (ws : List (List ℕ)) (line : List ℕ) (t : Three) → join_with_byte 32 ws ≡ line → three_of ws ≡ Some t → IsThree line t
+three_of_lem [] line t g e = cc
+three_of_lem (a ∷ []) line t g e = cc
+three_of_lem (a ∷ b ∷ []) line t g e = cc
 three_of_lem (a ∷ b ∷ c ∷ []) line t g e =
     let u : record { first = word_of a; second = word_of b; third = word_of c } ≡ t = cc in
     subst (IsThree line) u
@@ -114,37 +112,37 @@ three_of_lem (a ∷ b ∷ c ∷ []) line t g e =
       second = (is_word b).fits;
       third = (is_word c).fits;
     })
-three_of_lem (a ∷ b ∷ c ∷ d ∷ ws) line t g e = absurd (none_some t e)
+three_of_lem (a ∷ b ∷ c ∷ d ∷ ws) line t g e = cc
 
 pub is_three : (line : List ℕ) (t : Three) → three_words line ≡ Some t → IsThree line t
 is_three line t e = three_of_lem (pieces 32 line) line t (glue_pieces 32 line) e
 
 pub numeral_text : (w : Word) (n : ℕ) → numeral w ≡ Some n → WordFits w → (word_text w ≡ digits n) × (n < 100)
 numeral_text (number m) n e h = let u : m ≡ n = cc in (ap digits u, omega arith)
-numeral_text (letter i) n e h = absurd (none_some n e)
-numeral_text (sign c) n e h = absurd (none_some n e)
-numeral_text (name w) n e h = absurd (none_some n e)
+numeral_text (letter i) n e h = cc
+numeral_text (sign c) n e h = cc
+numeral_text (name w) n e h = cc
 
 pub flag_text_lem : (on : ℕ) (w : Word) (f : Bool) → flag on w ≡ Some f → word_text w ≡ flag_text on f ∷ []
-flag_text_lem on (number m) f e = absurd (none_some f e)
-flag_text_lem on (letter i) f e = absurd (none_some f e)
+flag_text_lem on (number m) f e = cc
+flag_text_lem on (letter i) f e = cc
 flag_text_lem on (sign c) f e = set (eqb c on) refl e
   where
     unset : (y : Bool) → eqb c 46 ≡ y → cond y (Some false) None ≡ Some f → c ∷ [] ≡ flag_text on f ∷ []
     unset true t e =
         let u : false ≡ f = cc in
         ap (λ x. x ∷ []) (eqb-true c 46 t ∙ ap (flag_text on) u)
-    unset false t e = absurd (none_some f e)
+    unset false t e = cc
 
     set : (x : Bool) → eqb c on ≡ x → cond x (Some true) (cond (eqb c 46) (Some false) None) ≡ Some f → c ∷ [] ≡ flag_text on f ∷ []
     set true t e =
         let u : true ≡ f = cc in
         ap (λ x. x ∷ []) (eqb-true c on t ∙ ap (flag_text on) u)
     set false t e = unset (eqb c 46) refl e
-flag_text_lem on (name w) f e = absurd (none_some f e)
+flag_text_lem on (name w) f e = cc
 
 pub by_text_lem : (w : Word) (b : By) → by_of w ≡ Some b → WordFits w → (word_text w ≡ by_text b ∷ []) × LegibleBy b
-by_text_lem (number n) b e h = absurd (none_some b e)
+by_text_lem (number n) b e h = cc
 by_text_lem (letter i) b e h =
     let u : Letter i ≡ b = cc in
     (ap (λ x. by_text x ∷ []) u, subst LegibleBy u h)
@@ -154,33 +152,30 @@ by_text_lem (sign c) b e h = every (eqb c 35) refl e
     every true t e =
         let u : Every ≡ b = cc in
         (ap (λ x. x ∷ []) (eqb-true c 35 t ∙ ap by_text u), subst LegibleBy u tt)
-    every false t e = absurd (none_some b e)
-by_text_lem (name w) b e h = absurd (none_some b e)
+    every false t e = cc
+by_text_lem (name w) b e h = cc
 
 pub named_text : (text : List ℕ) (w : Word) → named text w ≡ true → word_text w ≡ text
-named_text text (number n) e = absurd (let z : ◌≡◌ {A = ℕ} 0 1 = cc in omega arith)
-named_text text (letter i) e = absurd (let z : ◌≡◌ {A = ℕ} 0 1 = cc in omega arith)
-named_text text (sign c) e = absurd (let z : ◌≡◌ {A = ℕ} 0 1 = cc in omega arith)
+named_text text (number n) e = cc
+named_text text (letter i) e = cc
+named_text text (sign c) e = cc
 named_text text (name w) e = (bytes_eq-Decides w text).0 e
 
 pub make_state_lem : (o : Option ℕ) (p q : Option Bool) (s : StateLine) → make_state o p q ≡ Some s → (o ≡ Some s.number) × (p ≡ Some s.start) × (q ≡ Some s.mark)
-make_state_lem None p q s e = absurd (none_some s e)
-make_state_lem (Some n) None q s e = absurd (none_some s e)
-make_state_lem (Some n) (Some a) None s e = absurd (none_some s e)
+make_state_lem None p q s e = cc
+make_state_lem (Some n) None q s e = cc
+make_state_lem (Some n) (Some a) None s e = cc
 make_state_lem (Some n) (Some a) (Some b) s e =
     let u : record { number = n; start = a; mark = b } ≡ s = cc in
     (ap (λ x. Some x.number) u, ap (λ x. Some x.start) u, ap (λ x. Some x.mark) u)
 
 pub make_step_lem : (o : Option ℕ) (b : Option By) (q : Option ℕ) (s : StepLine) → make_step o b q ≡ Some s → (o ≡ Some s.from) × (b ≡ Some s.by) × (q ≡ Some s.to)
-make_step_lem None b q s e = absurd (none_some s e)
-make_step_lem (Some n) None q s e = absurd (none_some s e)
-make_step_lem (Some n) (Some a) None s e = absurd (none_some s e)
+make_step_lem None b q s e = cc
+make_step_lem (Some n) None q s e = cc
+make_step_lem (Some n) (Some a) None s e = cc
 make_step_lem (Some n) (Some a) (Some b) s e =
     let u : record { from = n; by = a; to = b } ≡ s = cc in
     (ap (λ x. Some x.from) u, ap (λ x. Some x.by) u, ap (λ x. Some x.to) u)
-
-pub glued : (a b c x y z : List ℕ) → a ≡ x → b ≡ y → c ≡ z → a ++ 32 ∷ (b ++ 32 ∷ c) ≡ x ++ 32 ∷ (y ++ 32 ∷ z)
-glued a b c x y z e f g = cc
 
 -- which entries a stage takes
 abbrev pub Belongs : Stage → Entry → Type 0

@@ -1,6 +1,6 @@
 -- What a chart's text tells, from the writing side: a document, how it is written, and the chart that it means.
-use Rattle.std.specs.Prelude.{◌≡◌, ℕ, ◌+◌, ◌/◌, ◌%◌, ◌<◌, Bool, false, cond, ◌&&◌, ◌||◌, List, [], ◌∷◌, ◌++◌, map, length, codes, ◌==◌, nat_lt, slice_index_or}
-use Rattle.std.specs.List.{flat_map, AllByRecursion}
+use Rattle.std.specs.Prelude.{◌≡◌, ℕ, ◌+◌, ◌/◌, ◌%◌, ◌<◌, Bool, false, cond, ◌&&◌, ◌||◌, List, [], ◌∷◌, ◌++◌, All, map, length, codes, ◌==◌, nat_lt, slice_index_or}
+use Rattle.std.specs.List.{flat_map}
 use Rattle.chart.specs.Automata.{Automaton, Allowed}
 use Rattle.text.specs.declared.entries.By.{By}
 use Rattle.text.specs.declared.entries.By.TheVariants.{Letter, Every}
@@ -85,7 +85,7 @@ StepFits k n t = (t.from < n) × ByFits k t.by × (t.to < n)
 pub record InRange (d : Document) : Type 0 where
   pub size : Allowed (length d.states) d.letters
   pub in_turn : (q : ℕ) → q < length d.states → (slice_index_or d.states q no_state).number ≡ q
-  pub steps_fit : AllByRecursion (StepFits d.letters (length d.states)) d.steps
+  pub steps_fit : All (StepFits d.letters (length d.states)) d.steps
 
 -- letter i is among those that the line names, of k letters
 abbrev pub covers : ℕ → By → ℕ → Bool

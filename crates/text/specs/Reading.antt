@@ -1,5 +1,5 @@
 -- How the reader goes from line to line. The contracts of its inner functions go by this; that of `load` does not.
-use Rattle.std.specs.Prelude.{◌≡◌, ℕ, ◌+◌, ◌^◌, ◌<◌, ◌≤◌, Bool, true, cond, ◌&&◌, List, [], ◌∷◌, ◌++◌, length, Some, None, Ok, Err, Option, Result, ◌==◌, nat_le, nat_lt, slice_index_or}
+use Rattle.std.specs.Prelude.{◌≡◌, ℕ, ◌+◌, ◌^◌, ◌<◌, ◌≤◌, Bool, true, false, cond, ◌&&◌, List, [], ◌∷◌, ◌++◌, length, Some, None, Ok, Err, Option, Result, MatchOption, ◌==◌, nat_le, nat_lt, slice_index_or}
 use Rattle.chart.specs.Kinds.{bit}
 use Rattle.fault.specs.declared.TextFault.{TextFault}
 use Rattle.fault.specs.declared.TextFault.TheVariants.{Form, Range}
@@ -13,10 +13,9 @@ use Rattle.text.specs.declared.entries.Entry.{Entry}
 use Rattle.text.specs.declared.entries.Entry.TheVariants.{Title, Count, Columns, State, Heading, Step}
 use Rattle.text.specs.declared.entries.Stage.{Stage}
 use Rattle.text.specs.declared.entries.Stage.TheVariants.{AtTitle, AtCount, AtColumns, AtStates, AtSteps}
+use Rattle.text.specs.declared.loading.Loaded.{Loaded}
 use Rattle.text.specs.declared.places.Place.{Place}
 use Rattle.text.specs.declared.cursors.Cursor.{Cursor}
-use Rattle.text.specs.declared.cursors.Turn.{Turn}
-use Rattle.text.specs.declared.cursors.Turn.TheVariants.{Line, End, Wrong}
 
 -- the kind of line that comes next, and the document read so far
 pub record Context : Type 0 where
@@ -96,29 +95,33 @@ judge k n (line ∷ (l ∷ ls)) = onward n (λ k'. judge k' (n + 1) (l ∷ ls)) 
 abbrev pub verdict : List ℕ → Verdict
 verdict text = judge first 1 (pieces 10 text)
 
--- the reader's own numbers stand for the document read so far
+-- the numbers are those of the document
+pub record Numbers (l : Loaded) (d : Document) : Type 0 where
+  pub letters : l.letters ≡ d.letters
+  pub states : l.states ≡ length d.states
+  pub few : length d.states ≤ 32
+  pub starts : (q : ℕ) → bit l.starts q ≡ (slice_index_or d.states q no_state).start
+  pub marks : (q : ℕ) → bit l.marks q ≡ (slice_index_or d.states q no_state).mark
+
+-- the reader's place stands for the kind of line that comes next, and for the document read so far
 pub record Holds (p : Place) (k : Context) : Type 0 where
   pub stage : p.stage ≡ k.stage
-  pub letters : p.letters ≡ k.sofar.letters
-  pub states : p.states ≡ length k.sofar.states
-  pub few : length k.sofar.states ≤ 32
-  pub starts : (q : ℕ) → bit p.starts q ≡ (slice_index_or k.sofar.states q no_state).start
-  pub marks : (q : ℕ) → bit p.marks q ≡ (slice_index_or k.sofar.states q no_state).mark
+  pub numbers : Numbers p.chart k.sofar
 
--- what became of a line
-abbrev pub Moved : ℕ → Next → Result Place TextFault → Type 0
-Moved n (go k) (Ok p) = Holds p k
-Moved n (go k) (Err e) = ⊥
-Moved n form (Ok p) = ⊥
-Moved n form (Err e) = e ≡ Form n
-Moved n range (Ok p) = ⊥
-Moved n range (Err e) = e ≡ Range n
+-- an entry that is in range leads from place to place
+pub record Moves (k : Context) (e : Entry) (p : Place) : Type 0 where
+  pub fit : fits k.sofar e ≡ true
+  pub holds : Holds p (after k.sofar e)
+
+-- what became of an entry at a place, whatever was read before
+abbrev pub Moved : Place → Entry → Option Place → Type 0
+Moved p e r = (k : Context) → Holds p k → MatchOption r (fits k.sofar e ≡ false) (Moves k e)
 
 -- the cursor stands in the text with k read, and what is left gives the text's verdict
 pub record Stands (text : List ℕ) (k : Context) (c : Cursor) : Type 0 where
   pub holds : Holds c.place k
-  pub same : verdict text ≡ judge k c.line (pieces 10 c.rest.now)
-  pub counted : c.line + length c.rest.now ≤ length text + 1
+  pub same : verdict text ≡ judge k c.rest.line (pieces 10 c.rest.text.now)
+  pub counted : c.rest.line + length c.rest.text.now ≤ length text + 1
   pub short : length text < 2 ^ 63
 
 -- a refusal by the verdict
@@ -132,19 +135,19 @@ pub record Went (text : List ℕ) (k : Context) (e : Entry) (c : Cursor) : Type 
   pub stands : Stands text (after k.sofar e) c
 
 -- what the next line gave: an entry, the end of a text that is fine, or a refusal
-abbrev pub Turned : List ℕ → Context → Cursor → Turn → Type 0
-Turned text k c (Line e) = Went text k e c
-Turned text k c End = (verdict text ≡ fine k.sofar) × Holds c.place k
-Turned text k c (Wrong e) = Told (verdict text) e
+abbrev pub Turned : List ℕ → Context → Cursor → Result (Option Entry) TextFault → Type 0
+Turned text k c (Ok (Some e)) = Went text k e c
+Turned text k c (Ok None) = (verdict text ≡ fine k.sofar) × Holds c.place k
+Turned text k c (Err e) = Told (verdict text) e
 
 -- a line that was read leaves less of the text
-abbrev pub Shorter : Turn → ℕ → ℕ → Type 0
-Shorter (Line e) m n = m < n
-Shorter End m n = Unit {0}
-Shorter (Wrong e) m n = Unit {0}
+abbrev pub Shorter : Result (Option Entry) TextFault → ℕ → ℕ → Type 0
+Shorter (Ok (Some e)) m n = m < n
+Shorter (Ok None) m n = Unit {0}
+Shorter (Err e) m n = Unit {0}
 
 -- what a first pass over the text gives
-pub record Surveyed (text : List ℕ) (p : Place) : Type 0 where
-  pub context : Context
-  pub verdict_is : verdict text ≡ fine context.sofar
-  pub holds : Holds p context
+pub record Surveyed (text : List ℕ) (l : Loaded) : Type 0 where
+  pub document : Document
+  pub verdict_is : verdict text ≡ fine document
+  pub numbers : Numbers l document

@@ -1,6 +1,5 @@
 -- At which line a text is refused, and whether for its form or for its range.
-use Rattle.std.specs.Prelude.{◌≡◌, ℕ, ◌+◌, ◌⊎◌, List, [], ◌∷◌, ◌++◌, length}
-use Rattle.std.specs.List.{AllByRecursion}
+use Rattle.std.specs.Prelude.{◌≡◌, ℕ, ◌+◌, ◌⊎◌, List, [], ◌∷◌, ◌++◌, All, length}
 use Rattle.chart.specs.Automata.{Automaton}
 use Rattle.text.specs.Documents.{Document, entries, lines_of, Legible, InRange, Tells}
 use Rattle.text.specs.Pieces.{pieces}
@@ -13,7 +12,7 @@ Begin P lines = (d : Document) × (rest : List (List ℕ)) × P d × (lines_of d
 
 -- a document that can be written at all, in range or not
 abbrev pub Writable : Document → Type 0
-Writable d = AllByRecursion Legible (entries d)
+Writable d = All Legible (entries d)
 
 -- The text up to its n-th line: the lines before begin a document in range.
 pub record Reaches (text : List ℕ) (n : ℕ) : Type 0 where

@@ -1,11 +1,12 @@
 -- Filling rows with the steps of a document.
-use Rattle.std.specs.Prelude.{◌≡◌, ℕ, ◌+◌, ◌*◌, ◌<◌, ◌≤◌, Bool, true, ◌||◌, List, length, slice_index}
+use Rattle.std.specs.Prelude.{◌≡◌, ℕ, ◌+◌, ◌*◌, ◌<◌, ◌≤◌, Bool, true, false, ◌||◌, List, slice_index}
 use Rattle.chart.specs.Kinds.{bit, Below}
-use Rattle.text.specs.Documents.{Document}
-use Rattle.text.specs.Reading.{fits, after, Holds}
+use Rattle.text.specs.Documents.{tells_step}
+use Rattle.text.specs.Reading.{step_fits}
 use Rattle.text.specs.declared.entries.Entry.{Entry}
-use Rattle.text.specs.declared.entries.Stage.TheVariants.{AtSteps}
-use Rattle.text.specs.declared.places.Place.{Place}
+use Rattle.text.specs.declared.entries.Entry.TheVariants.{Title, Count, Columns, State, Heading, Step}
+use Rattle.text.specs.declared.filling.Rows.{Rows}
+use Rattle.text.specs.declared.loading.Loaded.{Loaded}
 
 -- is q in the row of state p and letter i, of k letters?
 abbrev pub cell : List ℕ → ℕ → ℕ → ℕ → ℕ → Bool
@@ -19,26 +20,32 @@ Clean n k rows = (j : ℕ) → j < n * k → Below n (slice_index rows j)
 abbrev pub Past : ℕ → ℕ → List ℕ → List ℕ → Type 0
 Past n k was rows = (j : ℕ) → n * k ≤ j → slice_index rows j ≡ slice_index was j
 
--- the steps f were added to the rows `was` of n states and k letters
-pub record Added (n k : ℕ) (was rows : List ℕ) (f : ℕ → ℕ → ℕ → Bool) : Type 0 where
-  pub cells : (p i q : ℕ) → p < n → i < k → cell rows k p i q ≡ (f p i q || cell was k p i q)
-  pub clean : Clean n k was → Clean n k rows
-  pub past : Past n k was rows
+-- the steps f were added to the rows `was` of the chart of these numbers
+pub record Added (l : Loaded) (was rows : List ℕ) (f : ℕ → ℕ → ℕ → Bool) : Type 0 where
+  pub cells : (p i q : ℕ) → p < l.states → i < l.letters → cell rows l.letters p i q ≡ (f p i q || cell was l.letters p i q)
+  pub clean : Clean l.states l.letters was → Clean l.states l.letters rows
+  pub past : Past l.states l.letters was rows
 
--- there are rows enough for the document's chart, at most 32 states, and the rows are empty
-pub record Empty (d : Document) (rows : List ℕ) : Type 0 where
-  pub few : length d.states ≤ 32
-  pub enough : length d.states * d.letters ≤ length rows
-  pub empty : (j : ℕ) → j < length d.states * d.letters → slice_index rows j ≡ 0
+-- the steps f were added to rows, which are still the same words and of the same chart
+pub record Adds (was rows : Rows) (f : ℕ → ℕ → ℕ → Bool) : Type 0 where
+  pub same_reference : rows.cells.ghost_name ≡ was.cells.ghost_name
+  pub chart : rows.chart ≡ was.chart
+  pub added : Added was.chart was.cells.now rows.cells.now f
 
--- the rows of the document's chart hold the steps f, and nothing else
-pub record Holding (d : Document) (was rows : List ℕ) (f : ℕ → ℕ → ℕ → Bool) : Type 0 where
-  pub cells : (p i q : ℕ) → p < length d.states → i < d.letters → cell rows d.letters p i q ≡ f p i q
-  pub clean : Clean (length d.states) d.letters rows
-  pub past : Past (length d.states) d.letters was rows
+-- a line that tells a step tells it among the chart's states and letters
+abbrev pub Fits : Loaded → Entry → Type 0
+Fits l Title = Unit {0}
+Fits l (Count n) = Unit {0}
+Fits l Columns = Unit {0}
+Fits l (State s) = Unit {0}
+Fits l Heading = Unit {0}
+Fits l (Step t) = step_fits l.letters l.states t ≡ true
 
--- an entry that fits document k, which is the part of d read so far; the steps stand behind all states
-pub record Grows (d k : Document) (p : Place) (e : Entry) : Type 0 where
-  pub fit : fits k e ≡ true
-  pub holds : Holds p (after k e)
-  pub alike : (after k e).stage ≡ AtSteps → (d.letters ≡ k.letters) × (d.states ≡ k.states)
+-- the line tells the step from p by i to q, of k letters
+abbrev pub tells : ℕ → Entry → ℕ → ℕ → ℕ → Bool
+tells k Title p i q = false
+tells k (Count n) p i q = false
+tells k Columns p i q = false
+tells k (State s) p i q = false
+tells k Heading p i q = false
+tells k (Step t) p i q = tells_step k t p i q

@@ -1,5 +1,6 @@
 -- The reader's tokens as words.
-use Rattle.std.specs.Prelude.{◌≡◌, ℕ, List}
+use Rattle.std.specs.Prelude.{◌≡◌, ℕ, List, ◌∷◌, ◌++◌}
+use Rattle.text.specs.Pieces.{pieces}
 use Rattle.text.specs.Words.{Word, number, letter, sign, name, Three, word_of}
 use Rattle.text.specs.declared.words.Span.{Span}
 use Rattle.text.specs.declared.words.Token.{Token}
@@ -26,3 +27,10 @@ pub record Classified (text : List ℕ) (line : ℕ) (t : Token) : Type 0 where
   pub word : as_word t ≡ word_of text
   pub same : (span_of t).text.now ≡ text
   pub place : (span_of t).line ≡ line
+
+-- a span cut at its first separator s: what stands before it and what behind, on the same line
+pub record CutAt (s : ℕ) (whole head rest : Span) : Type 0 where
+  pub joined : whole.text.now ≡ head.text.now ++ s ∷ rest.text.now
+  pub parted : pieces s whole.text.now ≡ head.text.now ∷ pieces s rest.text.now
+  pub head_line : head.line ≡ whole.line
+  pub rest_line : rest.line ≡ whole.line

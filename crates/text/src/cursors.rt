@@ -6,35 +6,21 @@ ghost use Rattle.text.specs.Reading.{Context, Stands, Turned, Shorter, first, fi
 use crate::entries::{Entry, Stage};
 use crate::lines::read_entry;
 use crate::places::Place;
-use crate::words::part;
+use crate::words::Span;
 use fault::TextFault;
 
 #[derive(Clone, Copy)]
 pub struct Cursor<'a> {
     pub place: Place,
-    // the line that comes next, counted from 1
-    pub line: usize,
-    // the text from that line on
-    pub rest: &'a [u8],
-}
-
-// What the next line gave.
-#[derive(Clone, Copy)]
-pub enum Turn {
-    Line(Entry),
-    // there is none, and the text is whole
-    End,
-    Wrong(TextFault),
+    // the text from the line that comes next, which is counted from 1
+    pub rest: Span<'a>,
 }
 
 // Behind the last line feed: nothing may stand there, and the steps have to be reached.
 fn is_end(stage: Stage, rest: &[u8]) -> bool
     ensures { (d : Document) (n : ℕ) → MatchBool result (finish stage d n rest.now ≡ fine d) (finish stage d n rest.now ≡ wrong_form n) }
 {
-    match stage {
-        Stage::AtSteps => rest.is_empty(),
-        _ => false,
-    }
+    stage == Stage::AtSteps && rest.is_empty()
 }
 
 impl<'a> Cursor<'a> {
@@ -43,33 +29,28 @@ impl<'a> Cursor<'a> {
     {
         Cursor {
             place: Place::new(),
-            line: 1,
-            rest: text,
+            rest: Span { text, line: 1 },
         }
     }
 
-    // Reads the next line.
-    pub(crate) fn advance(&mut self) -> Turn
+    // Reads the next line. There is none where the text ends, and is whole.
+    pub(crate) fn advance(&mut self) -> Result<Option<Entry>, TextFault>
         ensures turned { (text : List ℕ) (k : Context) → Stands text k self.old → Turned text k self.new result }
-        ensures shorter { Shorter result (length self.new.rest.now) (length self.old.rest.now) }
+        ensures shorter { Shorter result (length self.new.rest.text.now) (length self.old.rest.text.now) }
     {
-        let line = self.line;
-        let Some(cut) = part(self.rest, b'\n') else {
-            if is_end(self.place.stage, self.rest) {
-                return Turn::End;
+        let line = self.rest.line;
+        let Some((head, rest)) = self.rest.split_once(b'\n') else {
+            if is_end(self.place.stage, self.rest.text) {
+                return Ok(None);
             }
-            return Turn::Wrong(TextFault::Form(line));
+            return Err(TextFault::Form(line));
         };
-        let Some(entry) = read_entry(self.place.stage, cut.head, line) else {
-            return Turn::Wrong(TextFault::Form(line));
+        let entry = read_entry(self.place.stage, head).ok_or(TextFault::Form(line))?;
+        self.place = self.place.take(entry).ok_or(TextFault::Range(line))?;
+        self.rest = Span {
+            line: line.saturating_add(1),
+            ..rest
         };
-        let place = match self.place.take(entry, line) {
-            Ok(place) => place,
-            Err(e) => return Turn::Wrong(e),
-        };
-        self.place = place;
-        self.line = line.saturating_add(1);
-        self.rest = cut.rest;
-        Turn::Line(entry)
+        Ok(Some(entry))
     }
 }

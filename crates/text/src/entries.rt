@@ -1,7 +1,7 @@
 // What the lines of a chart's text say.
 
 // Which kind of line comes next.
-#[derive(Clone, Copy)]
+#[derive(Clone, Copy, PartialEq, Eq, Debug)]
 pub enum Stage {
     // the word `letters`
     AtTitle,
@@ -15,21 +15,21 @@ pub enum Stage {
     AtSteps,
 }
 
-#[derive(Clone, Copy)]
+#[derive(Clone, Copy, PartialEq, Eq, Debug)]
 pub struct StateLine {
     pub number: u8,
     pub start: bool,
     pub mark: bool,
 }
 
-// The letters of a step line.
-#[derive(Clone, Copy)]
+// The letters of a step line. Not an Option of a letter: None would read as no letter, where every letter is meant.
+#[derive(Clone, Copy, PartialEq, Eq, Debug)]
 pub enum By {
     Letter(u8),
     Every,
 }
 
-#[derive(Clone, Copy)]
+#[derive(Clone, Copy, PartialEq, Eq, Debug)]
 pub struct StepLine {
     pub from: u8,
     pub by: By,
@@ -37,7 +37,7 @@ pub struct StepLine {
 }
 
 // One line.
-#[derive(Clone, Copy)]
+#[derive(Clone, Copy, PartialEq, Eq, Debug)]
 pub enum Entry {
     Title,
     Count(u8),

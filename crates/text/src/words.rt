@@ -1,8 +1,8 @@
 // Words of a line, as tokens that borrow the text.
-ghost use Rattle.std.specs.Prelude.{◌≡◌, [], ◌∷◌, ◌++◌, MatchOption};
+ghost use Rattle.std.specs.Prelude.{◌≡◌, [], ◌∷◌, MatchOption};
 ghost use Rattle.std.specs.Option.{option_map};
 ghost use Rattle.text.specs.Pieces.{pieces};
-ghost use Rattle.text.specs.Tokens.{as_word, as_three, Classified};
+ghost use Rattle.text.specs.Tokens.{as_word, as_three, Classified, CutAt};
 ghost use Rattle.text.specs.Words.{numeral, flag, by_of, named, three_words};
 
 use crate::entries::By;
@@ -26,13 +26,6 @@ pub enum Token<'a> {
     Name(Span<'a>),
 }
 
-// A text at its first separator: what stands before it, and what behind.
-#[derive(Clone, Copy)]
-pub struct Cut<'a> {
-    pub head: &'a [u8],
-    pub rest: &'a [u8],
-}
-
 // The words of a line of three.
 #[derive(Clone, Copy)]
 pub struct Trio<'a> {
@@ -41,51 +34,53 @@ pub struct Trio<'a> {
     pub third: Token<'a>,
 }
 
-// Cuts the text at its first separator, or answers that there is none.
-pub(crate) fn part(text: &[u8], at: u8) -> Option<Cut<'_>>
-    ensures { MatchOption result (pieces at text.now ≡ text.now ∷ []) (λ c. (text.now ≡ c.head.now ++ at ∷ c.rest.now) × (pieces at text.now ≡ c.head.now ∷ pieces at c.rest.now)) }
-{
-    for (i, b) in text.iter().enumerate() {
-        if *b == at {
-            return Some(Cut {
-                head: &text[0..i],
-                rest: &text[i + 1..],
-            });
+impl<'a> Span<'a> {
+    // What stands before the first such byte and what behind, or none where there is no such byte.
+    pub(crate) fn split_once(self, at: u8) -> Option<(Span<'a>, Span<'a>)>
+        ensures { MatchOption result (pieces at self.entry.text.now ≡ self.entry.text.now ∷ []) (λ c. CutAt at self.entry c.0 c.1) }
+    {
+        let i = self.text.iter().position(|&b| b == at)?;
+        let head = Span {
+            text: &self.text[..i],
+            ..self
+        };
+        let rest = Span {
+            text: &self.text[i + 1..],
+            ..self
+        };
+        Some((head, rest))
+    }
+
+    pub(crate) fn token(self) -> Token<'a>
+        ensures { Classified self.entry.text.now self.entry.line result }
+    {
+        match self.text {
+            [d @ b'0'..=b'9'] => Token::Number(*d - b'0', self),
+            [b @ b'a'..=b'z'] => Token::Letter(*b - b'a', self),
+            [b @ (b'>' | b'*' | b'.' | b'#')] => Token::Sign(*b as char, self),
+            [d @ b'1'..=b'9', e @ b'0'..=b'9'] => Token::Number(
+                10 * (*d - b'0') + (*e - b'0'),
+                self,
+            ),
+            _ => Token::Name(self),
         }
     }
-    None
-}
 
-pub(crate) fn classify(text: &[u8], line: usize) -> Token<'_>
-    ensures { Classified text.now line result }
-{
-    let span = Span { text, line };
-    match text {
-        [d @ b'0'..=b'9'] => Token::Number(*d - b'0', span),
-        [b @ b'a'..=b'z'] => Token::Letter(*b - b'a', span),
-        [b @ (b'>' | b'*' | b'.' | b'#')] => Token::Sign(*b as char, span),
-        [d @ b'1'..=b'9', e @ b'0'..=b'9'] => Token::Number(10 * (*d - b'0') + (*e - b'0'), span),
-        _ => Token::Name(span),
+    // The words of a line that has three.
+    pub(crate) fn three_words(self) -> Option<Trio<'a>>
+        ensures { option_map as_three result ≡ three_words self.entry.text.now }
+    {
+        let (a, rest) = self.split_once(b' ')?;
+        let (b, c) = rest.split_once(b' ')?;
+        if c.split_once(b' ').is_some() {
+            return None;
+        }
+        Some(Trio {
+            first: a.token(),
+            second: b.token(),
+            third: c.token(),
+        })
     }
-}
-
-// The words of a line that has three.
-pub(crate) fn three_words(text: &[u8], line: usize) -> Option<Trio<'_>>
-    ensures { option_map as_three result ≡ three_words text.now }
-{
-    let a = part(text, b' ')?;
-    let b = part(a.rest, b' ')?;
-    if part(b.rest, b' ').is_some() {
-        return None;
-    }
-    let first = classify(a.head, line);
-    let second = classify(b.head, line);
-    let third = classify(b.rest, line);
-    Some(Trio {
-        first,
-        second,
-        third,
-    })
 }
 
 impl Token<'_> {
@@ -109,7 +104,7 @@ impl Token<'_> {
         }
     }
 
-    // The column `mark`.
+    // The column `mark`. Not one function with `start`: the signs are to stand as cases in each column's decision.
     pub(crate) fn mark(self) -> Option<bool>
         ensures { result ≡ flag 42 (as_word self.entry) }
     {

@@ -12,7 +12,7 @@ const CHART: &str =
 // State 0 by a to both, by b and c to itself; state 1 by a nowhere, by b to 0, by c to both.
 const ROWS: [u32; 6] = [0b11, 0b01, 0b01, 0b00, 0b01, 0b11];
 
-// The numbers and the two sets.
+// The numbers and the two sets: one line in an assertion, where a Loaded takes six.
 fn numbers(chart: Loaded) -> [u32; 4] {
     [
         chart.states as u32,

@@ -17,7 +17,8 @@ pub(crate) const LINES: [&str; 8] = [
     "1 # 0\n",
 ];
 
-// The number and the place that loading the text into these rows is refused by, or twice 0.
+// The number and the place that loading the text into these rows is refused by, or twice 0. They stay numbers, since
+// these tests are of what a fault's number and place are.
 pub(crate) fn refusal_over(text: &str, rows: &mut [u32]) -> (u8, usize) {
     match load(text.as_bytes(), rows) {
         Ok(_) => (0, 0),

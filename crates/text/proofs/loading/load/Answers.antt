@@ -1,21 +1,25 @@
-use Rattle.std.proofs.Common.{sym, refl, subst, arith}
-use Rattle.std.proofs.lemmas.Result.{err_from_is_err_and}
+use Rattle.std.proofs.Common.{◌≡◌, ℕ, List, refl, subst, arith, rules}
+use Rattle.text.specs.Documents.{Document, some_tells}
 use Rattle.text.specs.Loads.{Filled}
+use Rattle.text.specs.Reading.{verdict, fine}
+use Rattle.text.specs.Rows.{Added}
+use Rattle.text.specs.declared.loading.Loaded.{Loaded}
+use Rattle.std.proofs.lemmas.Result.{err_from_is_err_and}
 use Rattle.text.proofs.Loadings.{refused, too_short, loaded}
 use Rattle.text.proofs.loading.load.Goals as goal
 
-pub returns-in_err-place : goal.returns-in_err-place
-returns-in_err-place c =
+pub returns-in_err-chart : goal.returns-in_err-chart
+returns-in_err-chart c =
     let p = err_from_is_err_and c.from_residual.result c.from_residual.ensures.1 in
-    rw (p.1, p.2) (refused c.args.text.now c.in_err-place.field-0.0 c.in_err-place.ensures, refl)
+    rw (p.1, p.2) (refused c.args.text.now c.in_err-chart.field-0.0 c.in_err-chart.ensures, refl)
 
-pub returns-then-rows-count : goal.returns-then-rows-count
-returns-then-rows-count c =
-    (too_short c.args.text.now c.args.rows.now c.in_ok-place.place c.in_ok-place.ensures (omega arith), refl)
+pub returns-then-rows-row_count : goal.returns-then-rows-row_count
+returns-then-rows-row_count c =
+    (too_short c.args.text.now c.args.rows.now c.in_ok-chart.chart c.in_ok-chart.ensures (omega arith), refl)
 
 pub returns : goal.returns
 returns c =
-    subst (Filled c.args.text.now c.args.rows.now c.fill.new.rows) (sym c.numbers.ensures)
-    (loaded c.args.text.now c.args.rows.now c.clear.new.rows c.fill.new.rows c.in_ok-place.place
-    c.in_ok-place.ensures (omega arith) (omega arith) (λ j h. c.clear.ensures.empty j (omega arith))
-    (λ j h. c.clear.ensures.past j (omega arith)) c.fill.ensures)
+    let l = c.in_ok-chart.chart in
+    subst (λ (r : List ℕ). Filled c.args.text.now c.args.rows.now r l) (search rules)
+    (loaded c.args.text.now c.args.rows.now c.clear.new.self.cells.now c.fill.new.rows.cells.now l
+    c.in_ok-chart.ensures (omega arith) c.clear.ensures.empty c.clear.ensures.past (subst (λ (m : Loaded). (d : Document) → verdict c.args.text.now ≡ fine d → Added m c.clear.new.self.cells.now c.fill.new.rows.cells.now (some_tells m.letters d.steps)) c.clear.ensures.chart c.fill.ensures.added))
