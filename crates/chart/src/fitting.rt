@@ -29,6 +29,7 @@ impl<C: Chart> Chart for Fitted<C> {
         q < self.size.states && self.chart.is_start(q)
     }
 
+    // Apart from `is_start`, since each is one question of the interface, and a closure for it would be longer.
     fn is_marked(&self, q: u8) -> bool {
         q < self.size.states && self.chart.is_marked(q)
     }

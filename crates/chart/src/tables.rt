@@ -1,5 +1,5 @@
 // A table chart: it reads its steps from rows that the caller lends.
-ghost use Rattle.std.specs.Prelude.{◌≡◌, ◌+◌, ◌*◌, ◌<◌, ◌≤◌, length, MatchResult, slice_index};
+ghost use Rattle.std.specs.Prelude.{◌≡◌, ◌+◌, ◌*◌, ◌<◌, ◌≤◌, ◌&&◌, length, MatchResult, nat_lt, slice_index};
 ghost use Rattle.chart.specs.Automata.{Allowed};
 ghost use Rattle.chart.specs.Fits.{fitted_limits};
 ghost use Rattle.chart.specs.Kinds.{bit, table, rowwise};
@@ -32,11 +32,11 @@ impl<'a> Chart for Table<'a> {
     }
 
     fn is_start(&self, q: u8) -> bool {
-        q < self.size.states && contains(self.starts, q)
+        self.has(self.starts, q)
     }
 
     fn is_marked(&self, q: u8) -> bool {
-        q < self.size.states && contains(self.marks, q)
+        self.has(self.marks, q)
     }
 
     fn has_step(&self, p: u8, i: u8, q: u8) -> bool {
@@ -65,6 +65,13 @@ impl<'a> Table<'a> {
             marks,
             rows,
         })
+    }
+
+    // Is q a state, and a member of the set?
+    fn has(&self, set: u32, q: u8) -> bool
+        ensures { result ≡ nat_lt q self.now.size.states && bit set q }
+    {
+        q < self.size.states && contains(set, q)
     }
 
     // The row of state p and letter i; past the rows no state is stepped to.

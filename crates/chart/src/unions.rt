@@ -37,6 +37,8 @@ impl<A: Chart, B: Chart> Chart for Union<A, B> {
         }
     }
 
+    // Apart from `is_start`, since each is one question of the interface, and two closures for it, one for each of the
+    // charts, would be longer.
     fn is_marked(&self, q: u8) -> bool {
         match q.checked_sub(self.first.states()) {
             None => self.first.is_marked(q),

@@ -1,3 +1,4 @@
 pub mod Counting
 pub mod Loops
 pub mod Paths
+pub mod Finding

@@ -3,7 +3,7 @@
 use Rattle.std.specs.Prelude.{ℕ, suc, ◌+◌, ◌-◌, ◌%◌, ◌<◌, ◌≤◌, Bool, cond, ◌&&◌, List, length, nat_le, nat_lt, slice_index_or}
 
 -- a lasso of n elements with a stem of j: its limits
-pub record Lasso (n j : ℕ) : Type 0 where
+pub record IsLasso (n j : ℕ) : Type 0 where
   pub some_elements : 1 ≤ n
   pub few_elements : n ≤ 131072
   pub loops : j < n

@@ -2,15 +2,15 @@
 use Rattle.std.specs.Prelude.{ℕ, ◌<◌, ◌≤◌, List, length, slice_index}
 use Rattle.fault.specs.declared.LassoFault.{LassoFault}
 use Rattle.fault.specs.declared.LassoFault.TheVariants.{Limits, Letter}
-use Rattle.lasso.specs.Positions.{Lasso}
+use Rattle.lasso.specs.Positions.{IsLasso}
 
 -- a lasso of n elements with a stem of j
 abbrev pub LassoRefused : ℕ → ℕ → LassoFault → Type 0
-LassoRefused n j Limits = Lasso n j → ⊥
+LassoRefused n j Limits = IsLasso n j → ⊥
 LassoRefused n j Letter = ⊥
 
 -- a word for charts of so many letters
 abbrev pub WordRefused : ℕ → List ℕ → ℕ → LassoFault → Type 0
-WordRefused letters word stem Limits = Lasso (length word) stem → ⊥
+WordRefused letters word stem Limits = IsLasso (length word) stem → ⊥
 WordRefused letters word stem Letter =
-    Lasso (length word) stem × ((k : ℕ) × (k < length word) × (letters ≤ slice_index word k))
+    IsLasso (length word) stem × ((k : ℕ) × (k < length word) × (letters ≤ slice_index word k))

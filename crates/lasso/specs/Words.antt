@@ -1,15 +1,15 @@
 -- What it is for a chart to take a word that repeats, and Büchi's condition on endless words.
 use Rattle.std.specs.Prelude.{◌≡◌, ℕ, suc, ◌-◌, ◌*◌, ◌<◌, ◌≤◌, true, List, length, slice_index}
 use Rattle.chart.specs.Automata.{Automaton}
-use Rattle.lasso.specs.Positions.{Lasso, element}
+use Rattle.lasso.specs.Positions.{IsLasso, element}
 
 -- the letter of a word at position k, where the word's letters from the stem's end on repeat for ever
 abbrev pub letter : List ℕ → ℕ → ℕ → ℕ
 letter word stem = element word stem 0
 
 -- a word for charts of so many letters
-pub record Word (letters : ℕ) (word : List ℕ) (stem : ℕ) : Type 0 where
-  pub lasso : Lasso (length word) stem
+pub record IsWord (letters : ℕ) (word : List ℕ) (stem : ℕ) : Type 0 where
+  pub lasso : IsLasso (length word) stem
   pub known : (k : ℕ) → k < length word → slice_index word k < letters
 
 -- The automaton takes the word: a run from a start steps by the word's letters as far as position `to`, where it is in

@@ -3,6 +3,8 @@
 
 mod agreement;
 mod positions;
+mod words;
 
 pub use agreement::{acceptance_agrees, places_repeat, runs_return};
-pub use positions::{after, check, check_word, element, place};
+pub use positions::Lasso;
+pub use words::Word;

@@ -1,72 +1,67 @@
 // Lassos over lent elements: a stem and a loop that repeats for ever, by positions, which never end, and by places.
-ghost use Rattle.std.specs.Prelude.{length, Decides, MatchResult};
-ghost use Rattle.lasso.specs.Found.{PlaceAt, PlaceAfter, ElementAt};
-ghost use Rattle.lasso.specs.Positions.{Lasso};
-ghost use Rattle.lasso.specs.Refused.{LassoRefused, WordRefused};
-ghost use Rattle.lasso.specs.Words.{Word};
+ghost use Rattle.std.specs.Prelude.{length, MatchResult};
 
 use fault::LassoFault;
 
-// Whether a lasso may have so many elements and such a stem.
-fn is_lasso(elements: usize, stem: usize) -> bool
-    ensures { Decides result (Lasso elements stem) }
-{
-    elements <= 131_072 && stem < elements
+// Elements, of which those behind the stem repeat for ever. Any elements and stem may be asked about.
+#[derive_where(Clone, Copy)]
+#[derive(PartialEq, Eq, Debug)]
+pub struct Lasso<'a, T> {
+    pub elements: &'a [T],
+    pub stem: usize,
 }
 
-// Refused by `Limits` where there is no element or more than 131,072, or the stem is not below the length.
-pub fn check<T>(elements: &[T], stem: usize) -> Result<(), LassoFault>
-    ensures { MatchResult result (λ _. Lasso (length elements.now) stem) (LassoRefused (length elements.now) stem) }
-{
-    if is_lasso(elements.len(), stem) {
-        Ok(())
-    } else {
-        Err(LassoFault::Limits)
-    }
-}
+impl<'a, T> Lasso<'a, T> {
+    ghost use Rattle.lasso.specs.Found.{PlaceAt, PlaceAfter};
+    ghost use Rattle.lasso.specs.Positions.{IsLasso};
+    ghost use Rattle.lasso.specs.Refused.{LassoRefused};
 
-// The place at which a position stands.
-pub fn place<T>(elements: &[T], stem: usize, position: usize) -> Result<usize, LassoFault>
-    ensures { MatchResult result (PlaceAt (length elements.now) stem position) (LassoRefused (length elements.now) stem) }
-{
-    let n = elements.len();
-    if !is_lasso(n, stem) {
-        return Err(LassoFault::Limits);
-    }
-    if position < n {
-        return Ok(position);
-    }
-    Ok(stem + (position - stem) % (n - stem))
-}
-
-// The place after a place.
-pub fn after<T>(elements: &[T], stem: usize, at: usize) -> Result<usize, LassoFault>
-    ensures { MatchResult result (PlaceAfter (length elements.now) stem at) (LassoRefused (length elements.now) stem) }
-{
-    let n = elements.len();
-    if !is_lasso(n, stem) {
-        return Err(LassoFault::Limits);
-    }
-    if at < n - 1 { Ok(at + 1) } else { Ok(stem) }
-}
-
-// The element at a position.
-pub fn element<T: Copy>(elements: &[T], stem: usize, position: usize) -> Result<T, LassoFault>
-    ensures { MatchResult result (ElementAt elements.now stem position) (LassoRefused (length elements.now) stem) }
-{
-    let at = place(elements, stem, position)?;
-    Ok(elements[at])
-}
-
-// Refused by `Limits` as `check` does, then by `Letter` where some letter is not below `letters`.
-pub fn check_word(word: &[u8], stem: usize, letters: u8) -> Result<(), LassoFault>
-    ensures { MatchResult result (λ _. Word letters word.now stem) (WordRefused letters word.now stem) }
-{
-    check(word, stem)?;
-    for x in word {
-        if *x >= letters {
-            return Err(LassoFault::Letter);
+    // Refused by `Limits` where there is no element or more than 131,072, or the stem is not below the length.
+    pub fn check(&self) -> Result<(), LassoFault>
+        ensures { MatchResult result (λ _. IsLasso (length self.now.elements.now) self.now.stem) (LassoRefused (length self.now.elements.now) self.now.stem) }
+    {
+        let n = self.elements.len();
+        if n <= 131_072 && self.stem < n {
+            Ok(())
+        } else {
+            Err(LassoFault::Limits)
         }
     }
-    Ok(())
+
+    // The place at which a position stands.
+    pub fn place(&self, position: usize) -> Result<usize, LassoFault>
+        ensures { MatchResult result (PlaceAt (length self.now.elements.now) self.now.stem position) (LassoRefused (length self.now.elements.now) self.now.stem) }
+    {
+        self.check()?;
+        let n = self.elements.len();
+        if position < n {
+            return Ok(position);
+        }
+        Ok(self.stem + (position - self.stem) % (n - self.stem))
+    }
+
+    // The place after a place.
+    pub fn after(&self, at: usize) -> Result<usize, LassoFault>
+        ensures { MatchResult result (PlaceAfter (length self.now.elements.now) self.now.stem at) (LassoRefused (length self.now.elements.now) self.now.stem) }
+    {
+        self.check()?;
+        if at < self.elements.len() - 1 {
+            Ok(at + 1)
+        } else {
+            Ok(self.stem)
+        }
+    }
+}
+
+impl<'a, T: Copy> Lasso<'a, T> {
+    ghost use Rattle.lasso.specs.Found.{ElementAt};
+    ghost use Rattle.lasso.specs.Refused.{LassoRefused};
+
+    // The element at a position.
+    pub fn element(&self, position: usize) -> Result<T, LassoFault>
+        ensures { MatchResult result (ElementAt self.now.elements.now self.now.stem position) (LassoRefused (length self.now.elements.now) self.now.stem) }
+    {
+        let at = self.place(position)?;
+        Ok(self.elements[at])
+    }
 }

@@ -1,35 +1,40 @@
 // How many elements a lasso may have, and where its loop may begin.
 use fault::{Fault, LassoFault};
+use lasso::Lasso;
 use std::alloc::{AllocError, Global};
 use std::test::Fail;
 
 // What a lasso of so many elements with such a stem is told.
 fn told(heap: Global, elements: usize, stem: usize) -> Result<Result<(), LassoFault>, AllocError> {
     let states = vec![in heap; 7u32; elements]?;
-    Ok(lasso::check(states.as_slice(), stem))
+    let lasso = Lasso {
+        elements: states.as_slice(),
+        stem,
+    };
+    Ok(lasso.check())
+}
+
+// The number of a refusal, or 0.
+fn number<T: Drop>(told: Result<T, LassoFault>) -> u8 {
+    match told {
+        Ok(_) => 0,
+        Err(e) => e.number(),
+    }
 }
 
 // The numbers by which the four functions refuse a lasso of so many elements, or 0.
 fn numbers(heap: Global, elements: usize, stem: usize) -> Result<[u8; 4], AllocError> {
     let letters = vec![in heap; 0u8; elements]?;
-    let word = letters.as_slice();
-    let place = match lasso::place(word, stem, 0) {
-        Ok(_) => 0,
-        Err(e) => e.number(),
+    let word = Lasso {
+        elements: letters.as_slice(),
+        stem,
     };
-    let after = match lasso::after(word, stem, 0) {
-        Ok(_) => 0,
-        Err(e) => e.number(),
-    };
-    let element = match lasso::element(word, stem, 0) {
-        Ok(_) => 0,
-        Err(e) => e.number(),
-    };
-    let checked = match lasso::check_word(word, stem, 1) {
-        Ok(_) => 0,
-        Err(e) => e.number(),
-    };
-    Ok([place, after, element, checked])
+    Ok([
+        number(word.place(0)),
+        number(word.after(0)),
+        number(word.element(0)),
+        number(word.check_letters(1)),
+    ])
 }
 
 #[test]

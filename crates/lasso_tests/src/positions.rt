@@ -1,5 +1,6 @@
 // Places, the places after them, and the elements at positions.
 use fault::LassoFault;
+use lasso::{Lasso, Word};
 use std::test::Fail;
 
 #[derive(Clone, Copy, PartialEq, Eq, Debug)]
@@ -27,25 +28,33 @@ const ENTRIES: [Entry; 3] = [
     },
 ];
 
+fn repeated<T>(elements: &[T], stem: usize) -> Lasso<'_, T> {
+    Lasso { elements, stem }
+}
+
 // The places of these positions.
-fn places(letters: &[u8], stem: usize, positions: [usize; 4]) -> Result<[usize; 4], LassoFault> {
-    let [a, b, c, d] = positions;
-    Ok([
-        lasso::place(letters, stem, a)?,
-        lasso::place(letters, stem, b)?,
-        lasso::place(letters, stem, c)?,
-        lasso::place(letters, stem, d)?,
-    ])
+fn places(word: Word<'_>, positions: [usize; 4]) -> Result<[usize; 4], LassoFault> {
+    let mut places = positions;
+    for place in &mut places {
+        *place = word.place(*place)?;
+    }
+    Ok(places)
 }
 
 // Up to the last place a position is its own place. Then the three of the loop come again and again.
 #[test]
 fn laps(rt: HostRuntime) -> Result<(), Fail> {
-    assert_eq!(rt; places(&LETTERS, 2, [0, 1, 2, 3])?, [0, 1, 2, 3]);
-    assert_eq!(rt; places(&LETTERS, 2, [4, 5, 6, 7])?, [4, 2, 3, 4]);
-    assert_eq!(rt; places(&LETTERS, 2, [8, 9, 10, 11])?, [2, 3, 4, 2]);
+    assert_eq!(rt; places(repeated(&LETTERS, 2), [0, 1, 2, 3])?, [0, 1, 2, 3]);
+    assert_eq!(rt; places(repeated(&LETTERS, 2), [4, 5, 6, 7])?, [4, 2, 3, 4]);
     assert_eq!(rt;
-        places(&LETTERS, 2, [3_000_001, 3_000_002, 3_000_003, 3_000_004])?,
+        places(repeated(&LETTERS, 2), [8, 9, 10, 11])?,
+        [2, 3, 4, 2]
+    );
+    assert_eq!(rt;
+        places(
+            repeated(&LETTERS, 2),
+            [3_000_001, 3_000_002, 3_000_003, 3_000_004]
+        )?,
         [4, 2, 3, 4]
     );
     Ok(())
@@ -56,7 +65,7 @@ fn laps(rt: HostRuntime) -> Result<(), Fail> {
 fn last_position(rt: HostRuntime) -> Result<(), Fail> {
     let last = usize::MAX;
     assert_eq!(rt;
-        places(&LETTERS, 2, [last - 3, last - 2, last - 1, last])?,
+        places(repeated(&LETTERS, 2), [last - 3, last - 2, last - 1, last])?,
         [3, 4, 2, 3]
     );
     Ok(())
@@ -65,9 +74,12 @@ fn last_position(rt: HostRuntime) -> Result<(), Fail> {
 // All of it repeats. 2^64 - 1 is a multiple of 5.
 #[test]
 fn no_stem(rt: HostRuntime) -> Result<(), Fail> {
-    assert_eq!(rt; places(&LETTERS, 0, [0, 4, 5, 9])?, [0, 4, 0, 4]);
+    assert_eq!(rt; places(repeated(&LETTERS, 0), [0, 4, 5, 9])?, [0, 4, 0, 4]);
     assert_eq!(rt;
-        places(&LETTERS, 0, [10, 5_000_003, usize::MAX - 1, usize::MAX])?,
+        places(
+            repeated(&LETTERS, 0),
+            [10, 5_000_003, usize::MAX - 1, usize::MAX]
+        )?,
         [0, 3, 4, 0]
     );
     Ok(())
@@ -76,12 +88,15 @@ fn no_stem(rt: HostRuntime) -> Result<(), Fail> {
 // A loop of one element.
 #[test]
 fn longest_stem(rt: HostRuntime) -> Result<(), Fail> {
-    assert_eq!(rt; places(&LETTERS, 4, [3, 4, 5, 6])?, [3, 4, 4, 4]);
+    assert_eq!(rt; places(repeated(&LETTERS, 4), [3, 4, 5, 6])?, [3, 4, 4, 4]);
     assert_eq!(rt;
-        places(&LETTERS, 4, [0, 1_000_000, usize::MAX - 1, usize::MAX])?,
+        places(
+            repeated(&LETTERS, 4),
+            [0, 1_000_000, usize::MAX - 1, usize::MAX]
+        )?,
         [0, 4, 4, 4]
     );
-    assert_eq!(rt; places(&[9], 0, [0, 1, 2, usize::MAX])?, [0; 4]);
+    assert_eq!(rt; places(repeated(&[9], 0), [0, 1, 2, usize::MAX])?, [0; 4]);
     Ok(())
 }
 
@@ -92,21 +107,24 @@ fn most_elements(rt: HostRuntime) -> Result<(), Fail> {
     let letters = vec![in rt.alloc(); 3u8; 131_072]?;
     let word = letters.as_slice();
     assert_eq!(rt;
-        places(word, 0, [131_071, 131_072, 262_143, usize::MAX])?,
+        places(repeated(word, 0), [131_071, 131_072, 262_143, usize::MAX])?,
         [131_071, 0, 131_071, 131_071]
     );
     assert_eq!(rt;
-        places(word, 1, [131_071, 131_072, 262_142, usize::MAX])?,
+        places(repeated(word, 1), [131_071, 131_072, 262_142, usize::MAX])?,
         [131_071, 1, 131_071, 8191]
     );
     assert_eq!(rt;
-        places(word, 131_071, [131_070, 131_071, 131_072, usize::MAX])?,
+        places(
+            repeated(word, 131_071),
+            [131_070, 131_071, 131_072, usize::MAX]
+        )?,
         [131_070, 131_071, 131_071, 131_071]
     );
     assert_eq!(rt;
         [
-            lasso::after(word, 9, 131_070)?,
-            lasso::after(word, 9, 131_071)?,
+            repeated(word, 9).after(131_070)?,
+            repeated(word, 9).after(131_071)?,
         ],
         [131_071, 9]
     );
@@ -118,28 +136,28 @@ fn most_elements(rt: HostRuntime) -> Result<(), Fail> {
 fn places_after(rt: HostRuntime) -> Result<(), Fail> {
     assert_eq!(rt;
         [
-            lasso::after(&LETTERS, 2, 0)?,
-            lasso::after(&LETTERS, 2, 1)?,
-            lasso::after(&LETTERS, 2, 2)?,
-            lasso::after(&LETTERS, 2, 3)?,
-            lasso::after(&LETTERS, 2, 4)?,
+            repeated(&LETTERS, 2).after(0)?,
+            repeated(&LETTERS, 2).after(1)?,
+            repeated(&LETTERS, 2).after(2)?,
+            repeated(&LETTERS, 2).after(3)?,
+            repeated(&LETTERS, 2).after(4)?,
         ],
         [1, 2, 3, 4, 2]
     );
     assert_eq!(rt;
         [
-            lasso::after(&LETTERS, 2, 5)?,
-            lasso::after(&LETTERS, 2, usize::MAX)?,
+            repeated(&LETTERS, 2).after(5)?,
+            repeated(&LETTERS, 2).after(usize::MAX)?,
         ],
         [2, 2]
     );
     assert_eq!(rt;
         [
-            lasso::after(&LETTERS, 0, 4)?,
-            lasso::after(&LETTERS, 4, 4)?,
-            lasso::after(&ENTRIES, 1, 0)?,
-            lasso::after(&ENTRIES, 1, 2)?,
-            lasso::after(&[9], 0, 0)?,
+            repeated(&LETTERS, 0).after(4)?,
+            repeated(&LETTERS, 4).after(4)?,
+            repeated(&ENTRIES, 1).after(0)?,
+            repeated(&ENTRIES, 1).after(2)?,
+            repeated(&[9], 0).after(0)?,
         ],
         [0, 4, 1, 1, 0]
     );
@@ -150,19 +168,19 @@ fn places_after(rt: HostRuntime) -> Result<(), Fail> {
 fn letters(rt: HostRuntime) -> Result<(), Fail> {
     assert_eq!(rt;
         [
-            lasso::element(&LETTERS, 2, 0)?,
-            lasso::element(&LETTERS, 2, 1)?,
-            lasso::element(&LETTERS, 2, 4)?,
-            lasso::element(&LETTERS, 2, 5)?,
-            lasso::element(&LETTERS, 2, 3_000_003)?,
-            lasso::element(&LETTERS, 2, usize::MAX)?,
+            repeated(&LETTERS, 2).element(0)?,
+            repeated(&LETTERS, 2).element(1)?,
+            repeated(&LETTERS, 2).element(4)?,
+            repeated(&LETTERS, 2).element(5)?,
+            repeated(&LETTERS, 2).element(3_000_003)?,
+            repeated(&LETTERS, 2).element(usize::MAX)?,
         ],
         [10, 11, 14, 12, 13, 13]
     );
     assert_eq!(rt;
         [
-            lasso::element(&LETTERS, 0, 5)?,
-            lasso::element(&LETTERS, 4, 5)?,
+            repeated(&LETTERS, 0).element(5)?,
+            repeated(&LETTERS, 4).element(5)?,
         ],
         [10, 14]
     );
@@ -175,25 +193,25 @@ fn entries(rt: HostRuntime) -> Result<(), Fail> {
     let [first, second, third] = ENTRIES;
     assert_eq!(rt;
         [
-            lasso::element(&ENTRIES, 1, 0)?,
-            lasso::element(&ENTRIES, 1, 1)?,
-            lasso::element(&ENTRIES, 1, 2)?,
-            lasso::element(&ENTRIES, 1, 3)?,
-            lasso::element(&ENTRIES, 1, 1_000_000)?,
-            lasso::element(&ENTRIES, 1, usize::MAX)?,
+            repeated(&ENTRIES, 1).element(0)?,
+            repeated(&ENTRIES, 1).element(1)?,
+            repeated(&ENTRIES, 1).element(2)?,
+            repeated(&ENTRIES, 1).element(3)?,
+            repeated(&ENTRIES, 1).element(1_000_000)?,
+            repeated(&ENTRIES, 1).element(usize::MAX)?,
         ],
         [first, second, third, second, third, second]
     );
     assert_eq!(rt;
-        lasso::place(&ENTRIES, 3, 0),
+        repeated(&ENTRIES, 3).place(0),
         Err::<usize, LassoFault>(LassoFault::Limits)
     );
     assert_eq!(rt;
-        lasso::element(&ENTRIES, 3, 0),
+        repeated(&ENTRIES, 3).element(0),
         Err::<Entry, LassoFault>(LassoFault::Limits)
     );
     assert_eq!(rt;
-        lasso::after(&ENTRIES[0..0], 0, 0),
+        repeated(&ENTRIES[0..0], 0).after(0),
         Err::<usize, LassoFault>(LassoFault::Limits)
     );
     Ok(())

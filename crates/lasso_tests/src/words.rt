@@ -1,11 +1,16 @@
 // Words, whose letters are those of a chart.
 use fault::LassoFault;
-use lasso::check_word;
+use lasso::Word;
 use std::test::Fail;
 
 const LETTER: Result<(), LassoFault> = Err(LassoFault::Letter);
 
 const LIMITS: Result<(), LassoFault> = Err(LassoFault::Limits);
+
+// What a word is told by a chart of so many letters.
+fn check_word(elements: &[u8], stem: usize, letters: u8) -> Result<(), LassoFault> {
+    Word { elements, stem }.check_letters(letters)
+}
 
 // A chart of 3 letters has the letters 0, 1 and 2.
 #[test]

@@ -8,7 +8,7 @@ use Rattle.graph.specs.Walks.{MarkedCycle, More}
 use Rattle.graph.proofs.Counting.{not_more}
 use Rattle.graph.proofs.Loops.{Loop, cycle_short_loop, loop_cycle}
 use Rattle.graph.proofs.Paths.{reach_node}
-use Rattle.lasso.specs.Positions.{Lasso}
+use Rattle.lasso.specs.Positions.{IsLasso}
 use Rattle.lasso.specs.Words.{Takes, Accepts, letter}
 use Rattle.lasso.proofs.Agreeing.{takes_accepts}
 use Rattle.lasso.proofs.Places.{place_first}
@@ -53,7 +53,7 @@ module _ (m : Automaton) where
 
   loop_taken : (l : Loop (chart_graph m)) → l.to ≤ 131072 → TakesSome m
   loop_taken l few =
-      let lasso : Lasso (length (loop_word l)) l.from =
+      let lasso : IsLasso (length (loop_word l)) l.from =
       rw (word_length l) (record { some_elements = omega (arith, l.goes); few_elements = few; loops = l.goes }) in
       record {
         word = loop_word l;

@@ -2,7 +2,7 @@
 use Rattle.std.proofs.Common.{◌≡◌, ℕ, Bool, not, List, length, is_some, Some, None, Option, sym, subst}
 use Rattle.chart.specs.Automata.{Automaton, Limits}
 use Rattle.graph.specs.Walks.{More}
-use Rattle.lasso.specs.Words.{Word}
+use Rattle.lasso.specs.Words.{IsWord}
 use Rattle.lasso.proofs.Agreeing.{takes_accepts, accepts_takes}
 use Rattle.search.specs.declared.records.Record.{Record}
 use Rattle.search.specs.declared.surveys.Findings.{Findings}
@@ -21,7 +21,7 @@ told_empty m h count work None (none, measures) =
     }
 told_empty m h count work (Some v) cycle = cycle_taken m h (v, cycle)
 
-pub told_member : (m : Automaton) → Limits m → (word : List ℕ) (stem : ℕ) → Word m.letters word stem → (count : ℕ) (work : List Record)
+pub told_member : (m : Automaton) → Limits m → (word : List ℕ) (stem : ℕ) → IsWord m.letters word stem → (count : ℕ) (work : List Record)
     (found : Option ℕ) → Told (word_graph m word stem) count work found → IsMember m word stem (is_some found)
 told_member m h word stem good count work None (none, measures) = (
   λ t. none (takes_word_cycle m word stem good.lasso h t),
@@ -43,7 +43,7 @@ answer_empty m m' same h n work found b len is s' =
     }
 
 pub answer_member : (m m' : Automaton) → m' ≡ m → Limits m → (word : List ℕ) (stem n : ℕ) (work : List Record) (found : Findings) (b : Bool)
-    → Word m.letters word stem → length work ≡ n → b ≡ is_some found.witness → Surveyed (word_graph m' word stem) work found
+    → IsWord m.letters word stem → length work ≡ n → b ≡ is_some found.witness → Surveyed (word_graph m' word stem) work found
     → Members m word stem n b
 answer_member m m' same h word stem n work found b good len is s' =
     let s = subst (λ x. Surveyed (word_graph x word stem) work found) same s' in

@@ -1,5 +1,4 @@
 pub mod Along
-pub mod Leasts
 pub mod ChartCycles
 pub mod WordCycles
 pub mod Deciding

@@ -4,14 +4,14 @@ use Rattle.std.proofs.lemmas.Nat.{div-mul-add, mod-mul-add}
 use Rattle.chart.specs.Automata.{Automaton, Limits}
 use Rattle.graph.specs.Walks.{MarkedCycle}
 use Rattle.graph.proofs.Loops.{Loop, Goes, cycle_loop, loop_cycle}
-use Rattle.lasso.specs.Positions.{Lasso, place, after}
+use Rattle.lasso.specs.Positions.{IsLasso, place, after}
 use Rattle.lasso.specs.Words.{Takes, letter}
 use Rattle.lasso.proofs.Places.{place_apart, place_below, place_next, place_same, place_zero}
 use Rattle.member.specs.Bounds.{Node, edge_true}
 use Rattle.member.specs.Maps.{word_graph}
 use Rattle.member.proofs.Along.{edge_from, marked_from, marked_true, start_from, start_true}
 
-module _ (m : Automaton) (word : List ℕ) (stem : ℕ) (lasso : Lasso (length word) stem) where
+module _ (m : Automaton) (word : List ℕ) (stem : ℕ) (lasso : IsLasso (length word) stem) where
   -- a loop passes the places in their order
   loop_place : (l : Loop (word_graph m word stem)) (k : ℕ) → k ≤ l.to → l.at k / 32 ≡ place (length word) stem k
   loop_place l zero h = (start_true m word stem (l.at 0) l.starts).1 ∙ sym (place_zero (length word) stem lasso.loops)

@@ -4,7 +4,7 @@ use Rattle.std.proofs.Common.{arith}
 use Rattle.std.proofs.lemmas.Bool.{and_parts, and_from, cond_both, eqb-true, lt-ltb, ltb-true}
 use Rattle.chart.specs.Automata.{Automaton, Limits}
 use Rattle.graph.specs.Graphs.{Bounded}
-use Rattle.lasso.specs.Positions.{Lasso, is_lasso, after}
+use Rattle.lasso.specs.Positions.{IsLasso, is_lasso, after}
 use Rattle.lasso.specs.Tests.{lasso_true, lasso_from}
 use Rattle.member.specs.Maps.{chart_graph, word_node, word_graph}
 
@@ -25,7 +25,7 @@ after_below n j p h = cond_both (nat_lt (suc p) n) (suc p) j (λ x. x < n) (λ e
 
 -- what it is to be a node along a word
 pub record Node (m : Automaton) (word : List ℕ) (stem v : ℕ) : Type 0 where
-  pub lasso : Lasso (length word) stem
+  pub lasso : IsLasso (length word) stem
   pub place : v / 32 < length word
   pub state : v % 32 < m.states
 

@@ -6,7 +6,7 @@ use Rattle.fault.specs.declared.MemberFault.TheVariants as faults
 use Rattle.fault.specs.declared.SearchFault.TheVariants.{Table, Full}
 use Rattle.graph.specs.Walks.{More}
 use Rattle.lasso.specs.Refused.{WordRefused}
-use Rattle.lasso.specs.Words.{letter, Word, Takes, Accepts}
+use Rattle.lasso.specs.Words.{letter, IsWord, Takes, Accepts}
 use Rattle.search.specs.declared.records.Record.{Record}
 use Rattle.search.specs.Surveys.{Allowed}
 use Rattle.member.specs.Maps.{chart_graph, word_graph}
@@ -20,7 +20,7 @@ pub record TakesNone (m : Automaton) : Type 0 where
 pub record TakesSome (m : Automaton) : Type 0 where
   pub word : List ℕ
   pub stem : ℕ
-  pub good : Word m.letters word stem
+  pub good : IsWord m.letters word stem
   pub takes : Takes m word stem
   pub accepts : Accepts m (letter word stem)
 
@@ -41,7 +41,7 @@ IsMember m word stem false = (Takes m word stem → ⊥) × (Accepts m (letter w
 
 pub record Members (m : Automaton) (word : List ℕ) (stem n : ℕ) (r : Bool) : Type 0 where
   pub allowed : Allowed n
-  pub good : Word m.letters word stem
+  pub good : IsWord m.letters word stem
   pub room : More (word_graph m word stem) n → ⊥
   pub told : IsMember m word stem r
 
@@ -51,4 +51,4 @@ MemberRefused m word stem was work (faults.Search Table) = (Allowed (length was)
 MemberRefused m word stem was work (faults.Word e) =
     Allowed (length was) × WordRefused m.letters word stem e × (work ≡ was)
 MemberRefused m word stem was work (faults.Search Full) =
-    Allowed (length was) × Word m.letters word stem × More (word_graph m word stem) (length was)
+    Allowed (length was) × IsWord m.letters word stem × More (word_graph m word stem) (length was)

@@ -1,15 +1,16 @@
 // A chart as a map: its states and its steps. It is the same for every word.
 ghost use Rattle.std.specs.Prelude.{◌≡◌};
+ghost use Rattle.graph.specs.Least.{Least};
 ghost use Rattle.member.specs.Bounds.{chart_bounded};
 ghost use Rattle.member.specs.Maps.{chart_graph};
 
-use crate::states;
 use chart::Chart;
 use graph::Map;
+use lasso::Word;
 
-#[derive(Drop)]
+#[derive_where(Clone, Copy)]
 pub struct ChartMap<'a, C> {
-    chart: &'a C,
+    pub(crate) chart: &'a C,
 }
 
 impl<'a, C: Chart> Map for ChartMap<'a, C> {
@@ -17,28 +18,28 @@ impl<'a, C: Chart> Map for ChartMap<'a, C> {
 
     ghost bounds = { λ m word stem. chart_bounded (C.Chart.meaning m.chart.now) (C.Chart.limits m.chart.now) };
 
-    fn letters(&self, word: &[u8], stem: usize) -> u8 {
+    fn letters(&self, word: Word<'_>) -> u8 {
         self.chart.letters()
     }
 
-    fn is_node(&self, word: &[u8], stem: usize, v: u64) -> bool {
+    fn is_node(&self, word: Word<'_>, v: u64) -> bool {
         v < self.chart.states() as u64
     }
 
-    fn is_start(&self, word: &[u8], stem: usize, v: u64) -> bool {
-        states::is_start(self.chart, v)
+    fn is_start(&self, word: Word<'_>, v: u64) -> bool {
+        self.has_start(v)
     }
 
-    fn is_marked(&self, word: &[u8], stem: usize, v: u64) -> bool {
-        states::is_marked(self.chart, v)
+    fn is_marked(&self, word: Word<'_>, v: u64) -> bool {
+        u8::try_from(v).is_ok_and(|q| self.chart.is_marked(q))
     }
 
-    fn least_start(&self, word: &[u8], stem: usize, from: u64) -> Option<u64> {
-        states::least_start(self.chart, from)
+    fn least_start(&self, word: Word<'_>, from: u64) -> Option<u64> {
+        self.first_start(from)
     }
 
-    fn least_next(&self, word: &[u8], stem: usize, v: u64, letter: u8, from: u64) -> Option<u64> {
-        states::least_step(self.chart, v, letter, from)
+    fn least_next(&self, word: Word<'_>, v: u64, letter: u8, from: u64) -> Option<u64> {
+        self.first_step(v, letter, from)
     }
 }
 
@@ -48,5 +49,36 @@ impl<'a, C: Chart> ChartMap<'a, C> {
         ensures { result.chart.now ≡ chart.now }
     {
         ChartMap { chart }
+    }
+
+    // Is q a start?
+    fn has_start(&self, q: u64) -> bool
+        ensures { result ≡ (C.Chart.meaning self.now.chart.now).start q }
+    {
+        u8::try_from(q).is_ok_and(|q| self.chart.is_start(q))
+    }
+
+    // Is there a step from p by the letter to q?
+    fn has_step(&self, p: u64, letter: u8, q: u64) -> bool
+        ensures { result ≡ (C.Chart.meaning self.now.chart.now).step p letter q }
+    {
+        match (u8::try_from(p), u8::try_from(q)) {
+            (Ok(p), Ok(q)) => self.chart.has_step(p, letter, q),
+            _ => false,
+        }
+    }
+
+    // The least start that is not below `from`.
+    fn first_start(&self, from: u64) -> Option<u64>
+        ensures { Least (C.Chart.meaning self.now.chart.now).start from result }
+    {
+        (from..32).find(|&q| self.has_start(q))
+    }
+
+    // The least state not below `from` that p steps to by the letter.
+    fn first_step(&self, p: u64, letter: u8, from: u64) -> Option<u64>
+        ensures { Least ((C.Chart.meaning self.now.chart.now).step p letter) from result }
+    {
+        (from..32).find(|&q| self.has_step(p, letter, q))
     }
 }

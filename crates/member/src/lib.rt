@@ -3,10 +3,10 @@
 
 mod charts;
 mod questions;
-mod states;
 mod words;
 
 pub use charts::ChartMap;
+pub use lasso::{Lasso, Word};
 pub use questions::{empty, member};
 pub use search::Record;
 pub use words::WordMap;

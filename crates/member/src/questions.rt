@@ -9,8 +9,14 @@ use crate::words::WordMap;
 use chart::Chart;
 use fault::{MemberFault, SearchFault};
 use graph::Map;
-use lasso::check_word;
+use lasso::{Lasso, Word};
 use search::{Findings, Record, check_table, survey};
+
+// No word: the states of a chart are searched for none.
+const NO_WORD: Word<'static> = Lasso {
+    elements: &[],
+    stem: 0,
+};
 
 // Does a reachable marked node lie on a cycle?
 fn has_cycle(found: Findings) -> bool
@@ -24,23 +30,18 @@ pub fn empty<C: Chart>(chart: &C, work: &mut [Record]) -> Result<bool, SearchFau
     ensures { MatchResult result (Empties (C.Chart.meaning chart.now) (length work.old)) (Refused (chart_graph (C.Chart.meaning chart.now)) work.old work.new) }
 {
     let map = ChartMap::new(chart);
-    let found = survey(&map, &[], 0, work)?;
+    let found = survey(&map, NO_WORD, work)?;
     Ok(!has_cycle(found))
 }
 
 // Does the chart take the word, whose letters from the stem's end on repeat for ever? Refused by 7 where the work table's
 // length is not allowed, then by 8 where the word is outside its limits or has a letter that the chart lacks, then by 13.
-pub fn member<C: Chart>(
-    chart: &C,
-    word: &[u8],
-    stem: usize,
-    work: &mut [Record],
-) -> Result<bool, MemberFault>
-    ensures { MatchResult result (Members (C.Chart.meaning chart.now) word.now stem (length work.old)) (MemberRefused (C.Chart.meaning chart.now) word.now stem work.old work.new) }
+pub fn member<C: Chart>(chart: &C, word: Word<'_>, work: &mut [Record]) -> Result<bool, MemberFault>
+    ensures { MatchResult result (Members (C.Chart.meaning chart.now) word.entry.elements.now word.entry.stem (length work.old)) (MemberRefused (C.Chart.meaning chart.now) word.entry.elements.now word.entry.stem work.old work.new) }
 {
     check_table(work)?;
-    check_word(word, stem, chart.letters())?;
+    word.check_letters(chart.letters())?;
     let map = WordMap::new(chart);
-    let found = survey(&map, word, stem, work)?;
+    let found = survey(&map, word, work)?;
     Ok(has_cycle(found))
 }

@@ -1,24 +1,19 @@
 // When the two questions are refused, and by what, in which order.
-use crate::samples::{BLANK, table};
+use crate::samples::{BLANK, table, told};
 use chart::{Chart, Table};
 use fault::{Fault, LassoFault, MemberFault, SearchFault};
-use member::{Record, empty, member};
+use member::{Record, empty};
 use std::test::Fail;
 
 // The number that `member` is refused by, or 0.
 fn refused<C: Chart>(chart: &C, word: &[u8], stem: usize, work: &mut [Record]) -> u8 {
-    match member(chart, word, stem, work) {
-        Ok(_) => 0,
-        Err(e) => e.number(),
-    }
+    let answer = told(chart, word, stem, work);
+    answer.err().map_or(0, |e| e.number())
 }
 
 // The number that `empty` is refused by, or 0.
 fn refused_empty<C: Chart>(chart: &C, work: &mut [Record]) -> u8 {
-    match empty(chart, work) {
-        Ok(_) => 0,
-        Err(e) => e.number(),
-    }
+    empty(chart, work).err().map_or(0, |e| e.number())
 }
 
 // A work table has 1 to 65,536 records.
@@ -29,13 +24,13 @@ fn tables(rt: HostRuntime) -> Result<(), Fail> {
     assert_eq!(rt; refused_empty(&chart, &mut []), 7);
     assert_eq!(rt; refused(&chart, &[0], 0, &mut []), 7);
     assert_eq!(rt; empty(&chart, &mut [BLANK; 1]), Ok(false));
-    assert_eq!(rt; member(&chart, &[0], 0, &mut [BLANK; 1]), Ok(true));
+    assert_eq!(rt; told(&chart, &[0], 0, &mut [BLANK; 1]), Ok(true));
     let mut most = table(rt.alloc(), 65536)?;
     assert_eq!(rt; empty(&chart, &mut most), Ok(false));
-    assert_eq!(rt; member(&chart, &[0], 0, &mut most), Ok(true));
+    assert_eq!(rt; told(&chart, &[0], 0, &mut most), Ok(true));
     let mut beyond = table(rt.alloc(), 65537)?;
     assert_eq!(rt; empty(&chart, &mut beyond), Err(SearchFault::Table));
-    let said = member(&chart, &[0], 0, &mut beyond);
+    let said = told(&chart, &[0], 0, &mut beyond);
     assert_eq!(rt; said, Err(MemberFault::Search(SearchFault::Table)));
     Ok(())
 }
@@ -56,14 +51,14 @@ fn records_for_states(rt: HostRuntime) -> Result<(), Fail> {
 fn records_for_places(rt: HostRuntime) -> Result<(), Fail> {
     let rows = [0b010, 0b100, 0b001];
     let chart = Table::new(3, 1, 0b001, 0b100, &rows)?;
-    let few = member(&chart, &[0, 0], 0, &mut [BLANK; 5]);
+    let few = told(&chart, &[0, 0], 0, &mut [BLANK; 5]);
     assert_eq!(rt; few, Err(MemberFault::Search(SearchFault::Full)));
     assert_eq!(rt; refused(&chart, &[0, 0], 0, &mut [BLANK; 5]), 13);
-    assert_eq!(rt; member(&chart, &[0, 0], 0, &mut [BLANK; 6]), Ok(true));
+    assert_eq!(rt; told(&chart, &[0, 0], 0, &mut [BLANK; 6]), Ok(true));
     // the stem of one letter adds its place with state 0, and the loop of one letter has three
-    let few = member(&chart, &[0, 0], 1, &mut [BLANK; 3]);
+    let few = told(&chart, &[0, 0], 1, &mut [BLANK; 3]);
     assert_eq!(rt; few, Err(MemberFault::Search(SearchFault::Full)));
-    assert_eq!(rt; member(&chart, &[0, 0], 1, &mut [BLANK; 4]), Ok(true));
+    assert_eq!(rt; told(&chart, &[0, 0], 1, &mut [BLANK; 4]), Ok(true));
     Ok(())
 }
 
@@ -74,14 +69,14 @@ fn lengths(rt: HostRuntime) -> Result<(), Fail> {
     let chart = Table::new(1, 1, 0b1, 0b1, &rows)?;
     let mut work = [BLANK; 1];
     let limits = Err(MemberFault::Word(LassoFault::Limits));
-    assert_eq!(rt; member(&chart, &[], 0, &mut work), limits);
-    assert_eq!(rt; member(&chart, &[0], 0, &mut work), Ok(false));
+    assert_eq!(rt; told(&chart, &[], 0, &mut work), limits);
+    assert_eq!(rt; told(&chart, &[0], 0, &mut work), Ok(false));
     let most = vec![in rt.alloc(); 0u8; 131072]?;
-    assert_eq!(rt; member(&chart, &most, 131071, &mut work), Ok(false));
-    assert_eq!(rt; member(&chart, &most, 0, &mut work), Ok(false));
-    assert_eq!(rt; member(&chart, &most, 131072, &mut work), limits);
+    assert_eq!(rt; told(&chart, &most, 131071, &mut work), Ok(false));
+    assert_eq!(rt; told(&chart, &most, 0, &mut work), Ok(false));
+    assert_eq!(rt; told(&chart, &most, 131072, &mut work), limits);
     let beyond = vec![in rt.alloc(); 0u8; 131073]?;
-    assert_eq!(rt; member(&chart, &beyond, 0, &mut work), limits);
+    assert_eq!(rt; told(&chart, &beyond, 0, &mut work), limits);
     assert_eq!(rt; refused(&chart, &beyond, 0, &mut work), 8);
     Ok(())
 }
@@ -92,15 +87,15 @@ fn loops_and_letters(rt: HostRuntime) -> Result<(), Fail> {
     let rows = [0b1, 0b1];
     let chart = Table::new(1, 2, 0b1, 0b1, &rows)?;
     let mut work = [BLANK; 8];
-    assert_eq!(rt; member(&chart, &[0, 1], 1, &mut work), Ok(true));
+    assert_eq!(rt; told(&chart, &[0, 1], 1, &mut work), Ok(true));
     let limits = Err(MemberFault::Word(LassoFault::Limits));
-    assert_eq!(rt; member(&chart, &[0, 1], 2, &mut work), limits);
+    assert_eq!(rt; told(&chart, &[0, 1], 2, &mut work), limits);
     let letter = Err(MemberFault::Word(LassoFault::Letter));
-    assert_eq!(rt; member(&chart, &[0, 2], 1, &mut work), letter);
-    assert_eq!(rt; member(&chart, &[2, 0], 1, &mut work), letter);
-    assert_eq!(rt; member(&chart, &[0, 255], 0, &mut work), letter);
+    assert_eq!(rt; told(&chart, &[0, 2], 1, &mut work), letter);
+    assert_eq!(rt; told(&chart, &[2, 0], 1, &mut work), letter);
+    assert_eq!(rt; told(&chart, &[0, 255], 0, &mut work), letter);
     assert_eq!(rt; refused(&chart, &[2], 0, &mut work), 8);
-    assert_eq!(rt; member(&chart, &[2, 2], 2, &mut work), limits);
+    assert_eq!(rt; told(&chart, &[2, 2], 2, &mut work), limits);
     Ok(())
 }
 

@@ -1,7 +1,7 @@
 // Charts over lent rows, and work tables.
 use chart::Chart;
 use fault::{MemberFault, SearchFault};
-use member::{Record, empty, member};
+use member::{Lasso, Record, empty, member};
 use std::alloc::{AllocError, Global};
 
 pub(crate) const BLANK: Record = Record {
@@ -19,7 +19,21 @@ pub(crate) fn is_empty<C: Chart>(chart: &C) -> Result<bool, SearchFault> {
     empty(chart, &mut [BLANK; 32])
 }
 
-// What `member` says with 256 records.
-pub(crate) fn takes<C: Chart>(chart: &C, word: &[u8], stem: usize) -> Result<bool, MemberFault> {
-    member(chart, word, stem, &mut [BLANK; 256])
+// What `member` says of the word of these letters with this stem.
+pub(crate) fn told<C: Chart>(
+    chart: &C,
+    letters: &[u8],
+    stem: usize,
+    work: &mut [Record],
+) -> Result<bool, MemberFault> {
+    let word = Lasso {
+        elements: letters,
+        stem,
+    };
+    member(chart, word, work)
+}
+
+// What it says with 256 records.
+pub(crate) fn takes<C: Chart>(chart: &C, letters: &[u8], stem: usize) -> Result<bool, MemberFault> {
+    told(chart, letters, stem, &mut [BLANK; 256])
 }

@@ -1,5 +1,5 @@
 -- A new node is entered, or there is no room for it.
-use Rattle.std.proofs.Common.{◌≡◌, ℕ, suc, ◌+◌, ◌*◌, ◌/◌, ◌%◌, ◌<◌, ◌≤◌, List, length, set, Some, None, Option, sym, refl, ap, ◌∙◌, subst, inl, inr, ⊎_elim, arith, length-set, MatchOption}
+use Rattle.std.proofs.Common.{◌≡◌, ℕ, suc, ◌+◌, ◌*◌, ◌/◌, ◌%◌, ◌<◌, ◌≤◌, List, length, set, Some, sym, refl, ap, ◌∙◌, subst, inl, inr, ⊎_elim, arith, length-set}
 use Rattle.std.proofs.lemmas.Bool.{cases_lt}
 use Rattle.graph.specs.Graphs.{Graph}
 use Rattle.graph.specs.Least.{Least}
@@ -147,16 +147,18 @@ module _ (g : Graph) (p : Spot) (v : ℕ) (was : List Record) (room : p.size < p
         (p.size, (omega (arith, length-set was p.size r, inside), inl (omega arith)), fun_at nodes_pushed p.size ∙ put_same (node_at was) p.size v)
 
 -- the current place leads to a new node
-pub step_entered : (g : Graph) (p : Spot) (x v : ℕ) (was work : List Record) (r : Option Spot) → length was ≤ 65536
-    → Searching g p.size p.top p.cur x was → Done g p.top (length was) (node_at was) (measure_at was) p.found
-    → Fresh g p.size p.top p.cur x was v → Entered p v was work r
-    → MatchOption r (More g (length was)) (Stepped g p was work)
-step_entered g p x v was work None few q done fresh full =
+pub step_crowded : (g : Graph) (p : Spot) (x v : ℕ) (was : List Record) → Searching g p.size p.top p.cur x was
+    → Fresh g p.size p.top p.cur x was v → p.size ≡ p.top → More g (length was)
+step_crowded g p x v was q fresh full =
     crowded g p.size p.top (length was) v (node_at was) q.held full
     (go (q.held.reached p.cur (omega (arith, q.tree.inside, q.held.stack, q.held.table), inl q.tree.inside))
     (letter_at was p.cur, fresh.left, fresh.least.1))
     fresh.new
-step_entered g p x v was work (Some after) few q done fresh (room, is, same) =
+
+pub step_entered : (g : Graph) (p : Spot) (x v : ℕ) (was work : List Record) (after : Spot) → length was ≤ 65536
+    → Searching g p.size p.top p.cur x was → Done g p.top (length was) (node_at was) (measure_at was) p.found
+    → Fresh g p.size p.top p.cur x was v → Entered p v was work after → Stepped g p was work after
+step_entered g p x v was work after few q done fresh (room, is, same) =
     let edge : Edge g (node_at was p.cur) v = (letter_at was p.cur, fresh.left, fresh.least.1) in
     let reached = go (q.held.reached p.cur (omega (arith, q.tree.inside, q.held.stack, q.held.table), inl q.tree.inside)) edge in
     let t =

@@ -6,7 +6,7 @@ use Rattle.graph.proofs.Paths.{path_join}
 use Rattle.search.specs.declared.records.Record.{Record}
 use Rattle.search.specs.declared.spots.Spot.{Spot}
 use Rattle.search.specs.Changes.{Changed}
-use Rattle.search.specs.Searches.{Searching, Explored, Stepped, Resumed}
+use Rattle.search.specs.Searches.{Searching, Explored, Stepped, GoesOn}
 use Rattle.search.specs.Tables.{node_at, letter_at, low_at, up_at}
 use Rattle.search.specs.Trees.{Under, Tree, put}
 use Rattle.search.proofs.Finished.{done_quiet, keeps_nodes}
@@ -71,25 +71,28 @@ module _ (g : Graph) (s top cur x u l from : ℕ) (was mid : List Record) (q : S
             ∙ subst (λ y. q.at y ≡ suc (node_at was cur)) (sym up_is) (q.tree.under cur (inl refl) (omega arith) q.tree.inside).1;
       }
 
-pub step_left : (g : Graph) (p : Spot) (u l from : ℕ) (was mid work : List Record) → Bounded g
+pub step_left : (g : Graph) (p p' q : Spot) (u l : ℕ) (was mid work : List Record) → Bounded g
     → (e : Explored g p.size p.top p.cur p.found was) → low_at was p.cur < p.cur → u ≡ up_at was p.cur → l ≡ low_at was p.cur
     → length mid ≡ length was → Changed u (letter_at was u) (min (low_at was u) l) was mid
-    → length work ≡ length mid → Resumed u (node_at was p.cur) mid work from
-    → Stepped g p was work (record { size = p.size; top = p.top; cur = u; from = from; found = p.found })
-step_left g p u l from was mid work b e falls up_is low-is len c len' r =
-    let q = e.going in
-    let below : u < p.cur = subst (λ y. y < p.cur) (sym up_is) (parent_of g p.size p.top p.cur e.from was q (omega arith)).below in
-    let left = searching_left g p.size p.top p.cur e.from u l from was mid q e.explored falls up_is low-is len c in
-    let on = searching_resumed g p.size p.top u (node_at was p.cur) from mid work b left len' r in
-    let quiet = quiet_join u was mid work (changed_quiet u (letter_at was u) (min (low_at was u) l) was mid c) (resumed_quiet u (node_at was p.cur) from mid work r) in
+    → p' ≡ p → length work ≡ length mid → GoesOn u (node_at was p.cur) p' mid work q
+    → Stepped g p was work q
+step_left g p p' q u l was mid work b e falls up_is low-is len c stays len' (is, r) =
+    let s = e.going in
+    let below : u < p.cur = subst (λ y. y < p.cur) (sym up_is) (parent_of g p.size p.top p.cur e.from was s (omega arith)).below in
+    let left = searching_left g p.size p.top p.cur e.from u l q.from was mid s e.explored falls up_is low-is len c in
+    let on = searching_resumed g p.size p.top u (node_at was p.cur) q.from mid work b left len' r in
+    let quiet = quiet_join u was mid work (changed_quiet u (letter_at was u) (min (low_at was u) l) was mid c) (resumed_quiet u (node_at was p.cur) q.from mid work r) in
+    let made : Stepped g p was work (record { size = p.size; top = p.top; cur = u; from = q.from; found = p.found }) =
     record {
       going =
           record {
             held = on.held;
-            done = done_quiet g u p.top p.found was work (omega (arith, q.tree.inside, q.held.stack)) (len' ∙ len) quiet e.done;
+            done = done_quiet g u p.top p.found was work (omega (arith, s.tree.inside, s.held.stack)) (len' ∙ len) quiet e.done;
             busy = λ some. on;
-            idle = λ z. absurd (omega (arith, q.tree.inside));
+            idle = λ z. absurd (omega (arith, s.tree.inside));
           };
       keeps = keeps_nodes p.size p.top was work (len' ∙ len) quiet.nodes;
       less = omega arith;
-    }
+    } in
+    let here = subst (λ y. q ≡ record { size = y.size; top = y.top; cur = u; from = q.from; found = y.found }) stays is in
+    subst (λ y. Stepped g p was work y) (sym here) made

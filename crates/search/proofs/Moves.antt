@@ -6,11 +6,11 @@ use Rattle.graph.specs.Least.{Least}
 use Rattle.graph.specs.Walks.{Path}
 use Rattle.graph.proofs.Paths.{path_edge}
 use Rattle.search.specs.declared.records.Record.{Record}
-use Rattle.search.specs.Changes.{Changed, Quiet}
+use Rattle.search.specs.Changes.{Changed, Quiet, Met}
 use Rattle.search.specs.Searches.{Searching, Resumed, left}
 use Rattle.search.specs.Tables.{node_at, letter_at, low_at, up_at}
-use Rattle.search.specs.Trees.{At, Used, Upto, Held, Tree, put}
-use Rattle.search.proofs.Puts.{put_same, put_other}
+use Rattle.search.specs.Trees.{At, Upto, Held, Tree, put}
+use Rattle.search.proofs.Puts.{put_same, put_other, put_id}
 use Rattle.search.proofs.Steps.{tree_seen}
 
 pub fun_at : {f h : ℕ → ℕ} → f ≡ h → (k : ℕ) → f k ≡ h k
@@ -121,14 +121,14 @@ upto_next g v l from next w least (k, hk, e, o) =
 pub min_cases : (a b : ℕ) → (min a b ≡ a) ⊎ ((min a b ≡ b) × (b < a))
 min_cases a b = ⊎_elim (λ (h : b < a). inr (omega arith, h)) (λ (h : a ≤ b). inl (omega arith)) (cases_lt b a)
 
--- the least node that follows is at place i already
-pub searching_met : (g : Graph) (s top cur from next i : ℕ) (was work : List Record) → Searching g s top cur from was
+-- the least node that follows is at place i of the stack already
+searching_placed : (g : Graph) (s top cur from next i : ℕ) (was work : List Record) → Searching g s top cur from was
     → length work ≡ length was → letter_at was cur < g.letters
     → Least (g.edge (node_at was cur) (letter_at was cur)) from (Some next)
-    → Used s top (length was) i → node_at was i ≡ next
+    → i < s → node_at was i ≡ next
     → Changed cur (letter_at was cur) (min (low_at was cur) i) was work
     → Searching g s top cur (suc next) work
-searching_met g s top cur from next i was work q len left least used is c =
+searching_placed g s top cur from next i was work q len left least lt is c =
     let m = min (low_at was cur) i in
     let back = q.tree.back cur q.tree.inside in
     let leads : Path g (node_at was cur) (node_at was m) =
@@ -138,11 +138,47 @@ searching_met g s top cur from next i was work q len left least used is c =
     (min_cases (low_at was cur) i) in
     searching_seen g s top cur (letter_at was cur) m from (suc next) was work q len c (omega arith) leads
     (λ w seen.
-    ⊎_elim inl
-    (λ (e : w ≡ next).
-    inr (⊎_elim (λ (lt : i < s). inr (i, omega arith, lt, is ∙ sym e))
-    (λ (hi : top ≤ i). inl (i, hi, used.0, is ∙ sym e)) used.1))
+    ⊎_elim inl (λ (e : w ≡ next). inr (inr (i, omega arith, lt, is ∙ sym e)))
     (upto_next g (node_at was cur) (letter_at was cur) from next w least seen))
+
+changed_same : (i : ℕ) (work : List Record) → Changed i (letter_at work i) (low_at work i) work work
+changed_same i work =
+    record {
+      nodes = refl;
+      letters = sym (put_id (letter_at work) i);
+      lows = sym (put_id (low_at work) i);
+      ups = refl;
+      measures = λ k ne. refl;
+    }
+
+-- or it is done
+searching_past : (g : Graph) (s top cur from next : ℕ) (was : List Record) → Searching g s top cur from was
+    → Least (g.edge (node_at was cur) (letter_at was cur)) from (Some next)
+    → At (node_at was) top (length was) next → Searching g s top cur (suc next) was
+searching_past g s top cur from next was q least (i, hi, lt, is) =
+    searching_seen g s top cur (letter_at was cur) (low_at was cur) from (suc next) was was q refl (changed_same cur was) (omega arith)
+    (q.tree.back cur q.tree.inside).1
+    (λ w seen.
+    ⊎_elim inl (λ (e : w ≡ next). inr (inl (i, hi, lt, is ∙ sym e)))
+    (upto_next g (node_at was cur) (letter_at was cur) from next w least seen))
+
+pub searching_met : (g : Graph) (s top cur from next : ℕ) (was work : List Record) → Searching g s top cur from was
+    → length work ≡ length was → letter_at was cur < g.letters
+    → Least (g.edge (node_at was cur) (letter_at was cur)) from (Some next) → Met s top cur next was work true
+    → Searching g s top cur (suc next) work
+searching_met g s top cur from next was work q len left least =
+    ⊎_elim (λ (i, lt, is, c). searching_placed g s top cur from next i was work q len left least lt is c)
+    (λ (same, done). subst (λ y. Searching g s top cur (suc next) y) (sym same) (searching_past g s top cur from next was q least done))
+
+pub met_quiet : (s top cur next : ℕ) (was work : List Record) → Met s top cur next was work true → Quiet cur was work
+met_quiet s top cur next was work =
+    ⊎_elim (λ (i, lt, is, c). changed_quiet cur (letter_at was cur) (min (low_at was cur) i) was work c)
+    (λ (same, done). subst (λ y. Quiet cur was y) (sym same) (quiet_same cur was))
+
+pub met_letter : (s top cur next : ℕ) (was work : List Record) → Met s top cur next was work true → letter_at work cur ≡ letter_at was cur
+met_letter s top cur next was work =
+    ⊎_elim (λ (i, lt, is, c). changed_letter cur (letter_at was cur) (min (low_at was cur) i) was work c)
+    (λ (same, done). ap (λ y. letter_at y cur) same)
 
 -- no edge leads to a number of 2^64 or more
 beyond : (g : Graph) → Bounded g → (v l node w : ℕ) → 2 ^ 64 ≤ node + 1 → suc node ≤ w → g.edge v l w ≡ true → ⊥

@@ -1,19 +1,26 @@
 -- A search from a start, and from every start.
-use Rattle.std.proofs.Common.{◌≡◌, ℕ, ◌+◌, ◌-◌, ◌<◌, ◌≤◌, true, false, List, length, is_some, Some, None, Option, sym, refl, ap, ◌∙◌, subst, inr, ⊎_elim, arith, MatchOption}
-use Rattle.std.proofs.lemmas.Bool.{cases_lt, true≢false}
+use Rattle.std.proofs.Common.{◌≡◌, ℕ, ◌+◌, ◌-◌, ◌<◌, ◌≤◌, true, List, length, Some, None, Option, sym, refl, ap, ◌∙◌, subst, inr, ⊎_elim, arith}
+use Rattle.fault.specs.declared.SearchFault.{SearchFault}
+use Rattle.fault.specs.declared.SearchFault.TheVariants.{Table, Full}
 use Rattle.graph.specs.Graphs.{Graph}
-use Rattle.graph.specs.Least.{Least}
 use Rattle.graph.specs.Walks.{Edge, Reach, begin, go, Measure, More}
 use Rattle.graph.proofs.Counting.{not_more}
 use Rattle.graph.proofs.Paths.{no_measure}
 use Rattle.search.specs.declared.records.Record.{Record}
 use Rattle.search.specs.declared.spots.Spot.{Spot}
 use Rattle.search.specs.Changes.{Settled}
-use Rattle.search.specs.Searches.{Going, Holds, Keeps, Entered, Rested, Visited, Swept}
+use Rattle.search.specs.Rising.{Passed, Next}
+use Rattle.search.specs.Searches.{Going, Holds, Keeps, Entered, Crowded, TooMany, Rested, Visited, Swept}
 use Rattle.search.specs.Surveys.{Collected, Told}
 use Rattle.search.specs.Tables.{node_at, letter_at, measure_at, low_at, up_at}
 use Rattle.search.specs.Trees.{At, Used, DoneTold, Tree, put}
 use Rattle.search.proofs.Entering.{crowded, going_pushed, keeps_pushed, holds_pushed, tree_start}
+
+-- with an empty stack, what is not done the table does not have
+pub not_done : (s top v : ℕ) (work : List Record) → s ≡ 0 → (At (node_at work) top (length work) v → ⊥)
+    → (i : ℕ) → Used s top (length work) i → node_at work i ≡ v → ⊥
+not_done s top v work empty none i (lt, used) is =
+    ⊎_elim (λ (a : i < s). absurd (omega arith)) (λ (b : top ≤ i). none (i, b, lt, is)) used
 
 -- the start is pushed onto the empty stack
 pub record Begun (g : Graph) (p : Spot) (start : ℕ) (was work : List Record) (q : Spot) : Type 0 where
@@ -21,16 +28,11 @@ pub record Begun (g : Graph) (p : Spot) (start : ℕ) (was work : List Record) (
   pub keeps : Keeps p.size p.top was q.size q.top work
   pub holds : Holds q.size q.top work start
 
-pub begin_start : (g : Graph) (p : Spot) (v : ℕ) (was work : List Record) (r : Option Spot) → length was ≤ 65536
+pub begin_start : (g : Graph) (p : Spot) (v : ℕ) (was work : List Record) (q : Spot) → length was ≤ 65536
     → Going g p was → p.size ≡ 0 → g.start v ≡ true
-    → ((i : ℕ) → Used 0 p.top (length was) i → node_at was i ≡ v → ⊥) → Entered p v was work r
-    → MatchOption r (More g (length was)) (Begun g p v was work)
-begin_start g p v was work None few going empty start new full =
-    crowded g p.size p.top (length was) v (node_at was) going.held full (begin start)
-    (subst (λ s. (i : ℕ) → Used s p.top (length was) i → node_at was i ≡ v → ⊥) (sym empty) new)
-begin_start g p v was work (Some q) few going empty start new (room, is, same) =
-    let new-here : (i : ℕ) → Used p.size p.top (length was) i → node_at was i ≡ v → ⊥ =
-    subst (λ s. (i : ℕ) → Used s p.top (length was) i → node_at was i ≡ v → ⊥) (sym empty) new in
+    → ((i : ℕ) → Used p.size p.top (length was) i → node_at was i ≡ v → ⊥) → Entered p v was work q
+    → Begun g p v was work q
+begin_start g p v was work q few going empty start new (room, is, same) =
     let t : Tree g (p.size + 1) p.top (length was) p.size (put (node_at was) p.size v) (put (letter_at was) p.size 0) (put (low_at was) p.size p.size) (put (up_at was) p.size p.cur) (λ u. 0) =
     subst (λ c. Tree g (p.size + 1) p.top (length was) p.size (put (node_at was) p.size v) (put (letter_at was) p.size 0) (put (low_at was) p.size p.size) (put (up_at was) p.size c) (λ u. 0))
     (sym (going.idle empty))
@@ -39,16 +41,20 @@ begin_start g p v was work (Some q) few going empty start new (room, is, same) =
     subst (λ y. Begun g p v was work y) (sym is)
     (subst (λ y. Begun g p v was y (record { size = p.size + 1; top = p.top; cur = p.size; from = 0; found = p.found })) (sym same)
     (record {
-      going = going_pushed g p v was room going.held.table few going.held going.done (begin start) new-here (λ u. 0) refl t;
-      keeps = keeps_pushed g p v was room going.held.table few going.held going.done (begin start) new-here;
-      holds = holds_pushed g p v was room going.held.table few going.held going.done (begin start) new-here;
+      going = going_pushed g p v was room going.held.table few going.held going.done (begin start) new (λ u. 0) refl t;
+      keeps = keeps_pushed g p v was room going.held.table few going.held going.done (begin start) new;
+      holds = holds_pushed g p v was room going.held.table few going.held going.done (begin start) new;
     }))
 
-pub visited : (g : Graph) (p q : Spot) (v : ℕ) (was mid work : List Record) (r : Option Spot) → length mid ≡ length was
-    → Begun g p v was mid q → MatchOption r (More g (length mid)) (Rested g q mid work)
-    → MatchOption r (More g (length was)) (Visited g p v was work)
-visited g p q v was mid work None len begun more = subst (λ n. More g n) len more
-visited g p q v was mid work (Some r) len begun rested =
+-- or there is no room for it
+pub begin_crowded : (g : Graph) (p : Spot) (v : ℕ) (was : List Record) (fault : SearchFault) → Going g p was → g.start v ≡ true
+    → ((i : ℕ) → Used p.size p.top (length was) i → node_at was i ≡ v → ⊥) → Crowded p fault → TooMany g (length was) fault
+begin_crowded g p v was Full going start new full = crowded g p.size p.top (length was) v (node_at was) going.held full (begin start) new
+begin_crowded g p v was Table going start new never = never
+
+pub visited : (g : Graph) (p q r : Spot) (v : ℕ) (was mid work : List Record) → Begun g p v was mid q → Rested g q mid work r
+    → Visited g p v was work r
+visited g p q r v was mid work begun rested =
     record {
       rested = record { going = rested.going; keeps = λ w h. rested.keeps w (begun.keeps w h); empty = rested.empty };
       holds = rested.keeps v begun.holds;
@@ -62,17 +68,15 @@ holds_done s top v work empty (i, used, is) =
 done_holds : (s top v : ℕ) (work : List Record) → At (node_at work) top (length work) v → Holds s top work v
 done_holds s top v work (i, lo, hi, is) = (i, (hi, inr lo), is)
 
-pub starts_more : (g : Graph) (p q : Spot) (from start : ℕ) (was work : List Record) → Least g.start from (Some start)
+-- the starts that are passed are done
+pub starts_more : (g : Graph) (p q : Spot) (from after : Option ℕ) (start : ℕ) (was work : List Record) → Next g.start from (Some start) after
     → Visited g p start was work q
-    → ((v : ℕ) → v < from → g.start v ≡ true → At (node_at was) p.top (length was) v)
-    → (v : ℕ) → v < start + 1 → g.start v ≡ true → At (node_at work) q.top (length work) v
-starts_more g p q from start was work least visit old v lt is =
+    → ((v : ℕ) → Passed from v → g.start v ≡ true → At (node_at was) p.top (length was) v)
+    → (v : ℕ) → Passed after v → g.start v ≡ true → At (node_at work) q.top (length work) v
+starts_more g p q from after start was work (is_start, up_to, more, last) visit old v passed is =
     holds_done q.size q.top v work visit.rested.empty
-    (⊎_elim (λ (a : v < from). visit.rested.keeps v (done_holds p.size p.top v was (old v a is)))
-    (λ (a : from ≤ v).
-    ⊎_elim (λ (b : v < start). absurd (least.2 v a b is))
-    (λ (b : start ≤ v). let e : start ≡ v = omega arith in subst (λ y. Holds q.size q.top work y) e visit.holds) (cases_lt v start))
-    (cases_lt v from))
+    (⊎_elim (λ before. visit.rested.keeps v (done_holds p.size p.top v was (old v before is)))
+    (λ (e : v ≡ start). subst (λ y. Holds q.size q.top work y) (sym e) visit.holds) (up_to v is passed))
 
 -- what can be reached is done
 all_done : (g : Graph) (q : Spot) (work : List Record) → Swept g work q → (v : ℕ) → Reach g v → At (node_at work) q.top (length work) v
@@ -118,7 +122,3 @@ module _ (g : Graph) (q : Spot) (mid work : List Record) (len : length work ≡ 
 
   pub room : More g (length work) → ⊥
   room = not_more g (length work) (length mid - q.top) (node_at work) (omega arith) collected.whole
-
-pub none_since : {A : Type 0} (o : Option A) (P : Type 0) (Q : A → Type 0) → MatchOption o P Q → is_some o ≡ false → P
-none_since None P Q p e = p
-none_since (Some x) P Q q e = absurd (true≢false e)

@@ -1,10 +1,10 @@
 -- The greatest measure among done nodes, taken over more and more of them.
-use Rattle.std.proofs.Common.{◌≡◌, ℕ, ◌+◌, ◌<◌, ◌≤◌, max, true, ◌⊎◌, List, length, Some, sym, refl, ◌∙◌, subst, inl, inr, ⊎_elim, arith}
+use Rattle.std.proofs.Common.{◌≡◌, ℕ, ◌+◌, ◌<◌, ◌≤◌, max, true, ◌⊎◌, List, length, Some, None, Option, sym, refl, ◌∙◌, subst, inl, inr, ⊎_elim, arith}
 use Rattle.std.proofs.lemmas.Bool.{cases_eq, cases_lt}
 use Rattle.graph.specs.Graphs.{Graph}
-use Rattle.graph.specs.Least.{Least}
 use Rattle.graph.specs.Walks.{Edge}
 use Rattle.search.specs.declared.records.Record.{Record}
+use Rattle.search.specs.Rising.{Next}
 use Rattle.search.specs.Tables.{node_at, measure_at}
 use Rattle.search.specs.Trees.{Follows, Heavy}
 use Rattle.search.specs.Weights.{Weight, Apart, Below, ByLetters}
@@ -59,35 +59,33 @@ weight_heavy top node r work apart =
     })
 
 module _ (g : Graph) (v l top : ℕ) (work : List Record) where
-  heavy_next : (from next b r : ℕ) → Least (g.edge v l) from (Some next)
+  pub heavy_first : Heavy (Below g v l (Some 0)) top (length work) (node_at work) (measure_at work) 0
+  heavy_first = heavy_none top (length work) (node_at work) (measure_at work) (Below g v l (Some 0)) (λ w (e, lt). omega arith)
+
+  heavy_next : (from after : Option ℕ) (next b r : ℕ) → Next (g.edge v l) from (Some next) after
       → Heavy (Below g v l from) top (length work) (node_at work) (measure_at work) b
       → Heavy (λ w. w ≡ next) top (length work) (node_at work) (measure_at work) r
-      → Heavy (Below g v l (next + 1)) top (length work) (node_at work) (measure_at work) (max b r)
-  heavy_next from next b r least =
-      heavy_max top (length work) (node_at work) (measure_at work) (Below g v l from) (λ w. w ≡ next) (Below g v l (next + 1)) b r
-      (λ w (e, lt).
-      ⊎_elim (λ (a : w < from). inl (e, a))
-      (λ (a : from ≤ w).
-      ⊎_elim (λ (x : w < next). absurd (least.2 w a x e)) (λ (x : next ≤ w). inr (omega arith)) (cases_lt w next))
-      (cases_lt w from))
-      (λ w (e, lt). (e, omega (arith, least.0)))
-      (λ w same. (subst (λ x. g.edge v l x ≡ true) (sym same) least.1, omega arith))
+      → Heavy (Below g v l after) top (length work) (node_at work) (measure_at work) (max b r)
+  heavy_next from after next b r (edge, up_to, more, passed) =
+      heavy_max top (length work) (node_at work) (measure_at work) (Below g v l from) (λ w. w ≡ next) (Below g v l after) b r
+      (λ w (e, p). ⊎_elim (λ a. inl (e, a)) (λ is. inr is) (up_to w e p))
+      (λ w (e, p). (e, more w p))
+      (λ w is. subst (λ x. Below g v l after x) (sym is) (edge, passed))
 
-  pub heavy_step : (from next b r x : ℕ) → Apart top work → Least (g.edge v l) from (Some next)
+  pub heavy_step : (from after : Option ℕ) (next b r x : ℕ) → Apart top work → Next (g.edge v l) from (Some next) after
       → Heavy (Below g v l from) top (length work) (node_at work) (measure_at work) b → Weight top next work r → x ≡ max b r
-      → Heavy (Below g v l (next + 1)) top (length work) (node_at work) (measure_at work) x
-  heavy_step from next b r x apart least heavy weight is =
-      subst (λ y. Heavy (Below g v l (next + 1)) top (length work) (node_at work) (measure_at work) y) (sym is)
-      (heavy_next from next b r least heavy (weight_heavy top next r work apart weight))
+      → Heavy (Below g v l after) top (length work) (node_at work) (measure_at work) x
+  heavy_step from after next b r x apart gives heavy weight is =
+      subst (λ y. Heavy (Below g v l after) top (length work) (node_at work) (measure_at work) y) (sym is)
+      (heavy_next from after next b r gives heavy (weight_heavy top next r work apart weight))
 
   -- behind the last node that v leads to by the letter, all are weighed
-  pub heavy_all : (x b : ℕ) → ((w : ℕ) → x ≤ w → g.edge v l w ≡ true → ⊥)
-      → Heavy (Below g v l x) top (length work) (node_at work) (measure_at work) b
+  pub heavy_all : (from after : Option ℕ) (b : ℕ) → Next (g.edge v l) from None after
+      → Heavy (Below g v l from) top (length work) (node_at work) (measure_at work) b
       → Heavy (λ w. g.edge v l w ≡ true) top (length work) (node_at work) (measure_at work) b
-  heavy_all x b none =
-      heavy_as top (length work) (node_at work) (measure_at work) (Below g v l x) (λ w. g.edge v l w ≡ true) b
-      (λ w e. ⊎_elim (λ (a : w < x). (e, a)) (λ (a : x ≤ w). absurd (none w a e)) (cases_lt w x))
-      (λ w (e, lt). e)
+  heavy_all from after b passed =
+      heavy_as top (length work) (node_at work) (measure_at work) (Below g v l from) (λ w. g.edge v l w ≡ true) b
+      (λ w e. (e, passed w e)) (λ w (e, lt). e)
 
   pub heavy_letter : (b c x : ℕ) → Heavy (ByLetters g v l) top (length work) (node_at work) (measure_at work) b
       → Heavy (λ w. g.edge v l w ≡ true) top (length work) (node_at work) (measure_at work) c → x ≡ max b c

@@ -1,8 +1,14 @@
 -- What the functions on tables change.
-use Rattle.std.specs.Prelude.{◌≡◌, ℕ, ◌+◌, ◌-◌, ◌<◌, ◌≤◌, min, Bool, true, false, List, length, ◌≢◌, slice_index_or}
+use Rattle.std.specs.Prelude.{◌≡◌, ℕ, ◌+◌, ◌-◌, ◌<◌, ◌≤◌, min, Bool, ◌⊎◌, true, false, List, length, ◌≢◌, slice_index_or}
+use Rattle.std.specs.Borrow.{MutBor}
 use Rattle.search.specs.declared.records.Record.{Record}
 use Rattle.search.specs.Tables.{blank, node_at, letter_at, measure_at, low_at, up_at}
-use Rattle.search.specs.Trees.{Used, put}
+use Rattle.search.specs.Trees.{At, Used, put}
+
+-- the table is the same one, and as long as it was
+pub record SameTable (was work : MutBor (List Record)) : Type 0 where
+  pub reference : work.ghost_name ≡ was.ghost_name
+  pub len : length work.now ≡ length was.now
 
 -- place i has letter l and low link m, and all else is as it was
 pub record Changed (i l m : ℕ) (was work : List Record) : Type 0 where
@@ -18,10 +24,11 @@ pub record Quiet (i : ℕ) (was work : List Record) : Type 0 where
   pub letters : (k : ℕ) → (k ≢ i) → letter_at work k ≡ letter_at was k
   pub measures : (k : ℕ) → (k ≢ i) → measure_at work k ≡ measure_at was k
 
+-- the table has a node that the current place leads to: the place's low link is not above it if it is on the stack
 abbrev pub Met : ℕ → ℕ → ℕ → ℕ → List Record → List Record → Bool → Type 0
 Met size top cur node was work true =
-    (i : ℕ) × Used size top (length was) i × (node_at was i ≡ node)
-    × Changed cur (letter_at was cur) (min (low_at was cur) i) was work
+    ((i : ℕ) × (i < size) × (node_at was i ≡ node) × Changed cur (letter_at was cur) (min (low_at was cur) i) was work)
+    ⊎ ((work ≡ was) × At (node_at was) top (length was) node)
 Met size top cur node was work false =
     (work ≡ was) × ((i : ℕ) → Used size top (length was) i → node_at was i ≢ node)
 

@@ -1,10 +1,11 @@
 -- A search on its way: what holds of its table, and what its steps make of it.
 use Rattle.std.specs.Prelude.{◌≡◌, ℕ, ◌+◌, ◌-◌, ◌*◌, ◌^◌, ◌<◌, ◌≤◌, true, ◌⊎◌, List, length, set, Some, None, Option, ◌≢◌}
+use Rattle.fault.specs.declared.SearchFault.{SearchFault}
+use Rattle.fault.specs.declared.SearchFault.TheVariants.{Table, Full}
 use Rattle.graph.specs.Graphs.{Graph}
 use Rattle.graph.specs.Least.{Least}
+use Rattle.graph.specs.Walks.{More}
 use Rattle.search.specs.declared.records.Record.{Record}
-use Rattle.search.specs.declared.scans.Seen.{Seen}
-use Rattle.search.specs.declared.scans.Seen.TheVariants.{New, On}
 use Rattle.search.specs.Changes.{Changed, Quiet}
 use Rattle.search.specs.declared.spots.Spot.{Spot}
 use Rattle.search.specs.Tables.{node_at, letter_at, measure_at, low_at, up_at}
@@ -65,18 +66,38 @@ pub record Swept (g : Graph) (work : List Record) (q : Spot) : Type 0 where
   pub empty : q.size ≡ 0
   pub starts : (v : ℕ) → g.start v ≡ true → At (node_at work) q.top (length work) v
 
--- a new node is pushed, if there is room
-abbrev pub Entered : Spot → ℕ → List Record → List Record → Option Spot → Type 0
-Entered p next was work None = p.size ≡ p.top
-Entered p next was work (Some q) =
+-- a new node is pushed
+abbrev pub Entered : Spot → ℕ → List Record → List Record → Spot → Type 0
+Entered p next was work q =
     (p.size < p.top)
     × (q ≡ record { size = p.size + 1; top = p.top; cur = p.size; from = 0; found = p.found })
     × (work ≡ set was p.size (record { node = next; letter = 0; measure = p.cur * 65536 + p.size }))
 
+-- there is no room for one
+abbrev pub Crowded : Spot → SearchFault → Type 0
+Crowded p Table = ⊥
+Crowded p Full = p.size ≡ p.top
+
+-- more nodes can be reached than a table of n records has room for
+abbrev pub TooMany : Graph → ℕ → SearchFault → Type 0
+TooMany g n Table = ⊥
+TooMany g n Full = More g n
+
+-- where a place goes on behind a node
 abbrev pub Resumed : ℕ → ℕ → List Record → List Record → ℕ → Type 0
 Resumed cur node was work r =
     ((r ≡ node + 1) × (node + 1 < 2 ^ 64) × (work ≡ was))
     ⊎ ((r ≡ 0) × (2 ^ 64 ≤ node + 1) × Changed cur (letter_at was cur + 1) (low_at was cur) was work)
+
+-- the search goes on at a place, behind a node
+abbrev pub GoesOn : ℕ → ℕ → Spot → List Record → List Record → Spot → Type 0
+GoesOn place node p was work q =
+    (q ≡ record { size = p.size; top = p.top; cur = place; from = q.from; found = p.found })
+    × Resumed place node was work q.from
+
+-- at most the node at which it goes on is not as it was
+abbrev pub IsFurther : Spot → Spot → Type 0
+IsFurther p q = q ≡ record { size = p.size; top = p.top; cur = p.cur; from = q.from; found = p.found }
 
 -- what is left to look at where a place is at its letter and at node x
 abbrev pub left : Graph → ℕ → ℕ → ℕ
@@ -88,9 +109,9 @@ pub record Fresh (g : Graph) (s top cur from : ℕ) (work : List Record) (next :
   pub least : Least (g.edge (node_at work cur) (letter_at work cur)) from (Some next)
   pub new : (i : ℕ) → Used s top (length work) i → node_at work i ≢ next
 
-abbrev pub Looked : Graph → ℕ → ℕ → ℕ → ℕ → List Record → List Record → Seen → Type 0
-Looked g s top cur from was work (New next) = (work ≡ was) × Fresh g s top cur from was next
-Looked g s top cur from was work (On x) =
+abbrev pub Looked : Graph → ℕ → ℕ → ℕ → ℕ → List Record → List Record → ℕ → Option ℕ → Type 0
+Looked g s top cur from was work x (Some next) = (x ≡ from) × (work ≡ was) × Fresh g s top cur from was next
+Looked g s top cur from was work x None =
     Searching g s top cur x work × Quiet cur was work × (left g (letter_at work cur) x < left g (letter_at was cur) from)
 
 abbrev pub Scanned : Graph → ℕ → ℕ → ℕ → List Record → List Record → Option ℕ → Type 0

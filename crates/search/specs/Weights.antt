@@ -1,9 +1,10 @@
 -- What is found out about a finished component.
-use Rattle.std.specs.Prelude.{◌≡◌, ℕ, suc, ◌+◌, ◌-◌, ◌<◌, ◌≤◌, true, ◌⊎◌, List, length, Some, None, Option, ◌≢◌}
+use Rattle.std.specs.Prelude.{◌≡◌, ℕ, suc, ◌+◌, ◌-◌, ◌<◌, ◌≤◌, true, ◌⊎◌, List, length, Some, None, Option, Ok, Err, Result, ◌≢◌}
 use Rattle.graph.specs.Graphs.{Graph}
 use Rattle.graph.specs.Walks.{Recurring, Measure}
 use Rattle.search.specs.declared.records.Record.{Record}
-use Rattle.search.specs.declared.weights.Assessed.{Assessed}
+use Rattle.search.specs.declared.spots.Spot.{Spot}
+use Rattle.search.specs.Rising.{Passed}
 use Rattle.search.specs.Searches.{Explored, Searching, Keeps}
 use Rattle.search.specs.Tables.{node_at, letter_at, measure_at, low_at, up_at}
 use Rattle.search.specs.Trees.{At, Held, Done}
@@ -19,9 +20,9 @@ abbrev pub Apart : ℕ → List Record → Type 0
 Apart top work =
     (i j : ℕ) → top ≤ i → i < length work → top ≤ j → j < length work → node_at work i ≡ node_at work j → i ≡ j
 
--- v leads to w by the letter, and w is below x
-abbrev pub Below : Graph → ℕ → ℕ → ℕ → ℕ → Type 0
-Below g v l x w = (g.edge v l w ≡ true) × (w < x)
+-- v leads to w by the letter, and w is passed
+abbrev pub Below : Graph → ℕ → ℕ → Option ℕ → ℕ → Type 0
+Below g v l from w = (g.edge v l w ≡ true) × Passed from w
 
 -- v leads to w by a letter below l
 abbrev pub ByLetters : Graph → ℕ → ℕ → ℕ → Type 0
@@ -46,14 +47,24 @@ ComponentTold g cur s work before m None =
     (before ≡ None) × ((u : ℕ) → cur ≤ u → u < s → Measure g (node_at work u) m)
 ComponentTold g cur s work before m (Some v) = Recurring g v
 
-pub record Assessment (g : Graph) (s top cur : ℕ) (before : Option ℕ) (work : List Record) (r : Assessed) : Type 0 where
-  pub fits : r.measure ≤ length work - top + 1
-  pub told : ComponentTold g cur s work before r.measure r.found
+-- the component has measure m, where f is a node on a marked cycle or there is none
+pub record Assessed (g : Graph) (s top cur : ℕ) (before : Option ℕ) (work : List Record) (m : ℕ) (f : Option ℕ) : Type 0 where
+  pub fits : m ≤ length work - top + 1
+  pub told : ComponentTold g cur s work before m f
+
+-- and is told by its measure, or by such a node
+abbrev pub Assessment : Graph → ℕ → ℕ → ℕ → Option ℕ → List Record → Result ℕ ℕ → Type 0
+Assessment g s top cur before work (Ok m) = Assessed g s top cur before work m None
+Assessment g s top cur before work (Err v) = Assessed g s top cur before work 0 (Some v)
 
 -- The component is done: the stack ends below it, and its root's parent goes on behind the root.
-pub record Retired (g : Graph) (s top cur : ℕ) (was work : List Record) (r : Assessed) : Type 0 where
+pub record Retired (g : Graph) (s top cur : ℕ) (was work : List Record) (found : Option ℕ) : Type 0 where
   pub held : Held g cur (top - (s - cur)) (length work) (node_at work)
-  pub done : Done g (top - (s - cur)) (length work) (node_at work) (measure_at work) r.found
+  pub done : Done g (top - (s - cur)) (length work) (node_at work) (measure_at work) found
   pub busy : 0 < cur → Searching g cur (top - (s - cur)) (up_at was cur) (suc (node_at was cur)) work
   pub parent : 0 < cur → (up_at was cur < cur) × (letter_at work (up_at was cur) < g.letters)
   pub keeps : Keeps s top was cur (top - (s - cur)) work
+
+-- how far the search has come then
+abbrev pub IsRetiredSpot : Spot → Spot → Type 0
+IsRetiredSpot p q = q ≡ record { size = p.cur; top = p.top - (p.size - p.cur); cur = p.cur; from = p.from; found = q.found }

@@ -1,141 +1,135 @@
 // The steps of a search: a new node is entered, an explored place is left for its parent, a component is retired.
-ghost use Rattle.std.specs.Prelude.{◌≡◌, suc, ◌-◌, ◌<◌, ◌≤◌, length, MatchOption};
+ghost use Rattle.std.specs.Prelude.{◌≡◌, ◌<◌, ◌≤◌, length, MatchResult};
 ghost use Rattle.graph.specs.Graphs.{Graph, Bounded};
-ghost use Rattle.graph.specs.Walks.{More};
-ghost use Rattle.search.specs.Searches.{Searching, Explored, Going, Stepped, Rested, Entered};
+ghost use Rattle.search.specs.Changes.{SameTable};
+ghost use Rattle.search.specs.Graphs.{graph_of};
+ghost use Rattle.search.specs.Searches.{Explored, Going, Stepped, Rested, Entered, Crowded, TooMany, GoesOn};
 ghost use Rattle.search.specs.Tables.{node_at, letter_at, low_at, up_at};
-ghost use Rattle.search.specs.Weights.{Rooted, Retired};
+ghost use Rattle.search.specs.Weights.{Rooted, Retired, IsRetiredSpot};
 
+use crate::graphs::ImplicitGraph;
 use crate::records::Record;
-use crate::scans::{resume, scan};
-use crate::spots::Spot;
-use crate::tables::{low_link, lower, move_up, parent, push};
-use crate::weights::{Assessed, assess};
+use crate::spots::{Search, Spot};
+use fault::SearchFault;
 use graph::Map;
 
-// Pushes a new node, if there is room.
-pub(crate) fn enter(work: &mut [Record], spot: Spot, next: u64) -> Option<Spot>
-    requires { (spot.size ≤ spot.top) × ((spot.top ≤ length work.old) × ((length work.old ≤ 65536) × (spot.cur < 65536))) }
-    ensures { Entered spot next work.old work.new result }
-{
-    if spot.size == spot.top {
-        return None;
-    }
-    push(work, spot.size, spot.cur, next);
-    Some(Spot {
-        size: spot.size + 1,
-        top: spot.top,
-        cur: spot.size,
-        from: 0,
-        found: spot.found,
-    })
-}
-
-// Leaves the current place for its parent, which gets its low link and goes on behind its node.
-fn leave(work: &mut [Record], spot: Spot) -> Spot
-    requires inside { spot.cur < length work.old }
-    requires parent { up_at work.old spot.cur < length work.old }
-    requires letter { letter_at work.old (up_at work.old spot.cur) < 255 }
-    ensures { (g : Graph) → Bounded g → Explored g spot.size spot.top spot.cur spot.found work.old → low_at work.old spot.cur < spot.cur → Stepped g spot work.old work.new result }
-{
-    let node = work[spot.cur].node;
-    let low = low_link(work, spot.cur);
-    let up = parent(work, spot.cur);
-    lower(work, up, low);
-    let from = resume(work, up, node);
-    Spot {
-        size: spot.size,
-        top: spot.top,
-        cur: up,
-        from,
-        found: spot.found,
-    }
-}
-
-// Assesses the component of the current place, and moves it to what is done.
-fn retire<M: Map>(map: &M, word: &[u8], stem: usize, work: &mut [Record], spot: Spot) -> Assessed
-    requires few { length work.old ≤ 65536 }
-    requires rooted { Rooted (M.Map.graph map.now word.now stem) spot.size spot.top spot.cur spot.found work.old }
-    ensures { Retired (M.Map.graph map.now word.now stem) spot.size spot.top spot.cur work.old work.new result }
-{
-    let made = assess(map, word, stem, work, spot);
-    move_up(work, spot.size, spot.top, spot.cur, made.measure);
-    made
-}
-
-// Retires the component of the current place; the parent goes on, if there is one.
-fn close<M: Map>(map: &M, word: &[u8], stem: usize, work: &mut [Record], spot: Spot) -> Spot
-    requires few { length work.old ≤ 65536 }
-    requires rooted { Rooted (M.Map.graph map.now word.now stem) spot.size spot.top spot.cur spot.found work.old }
-    ensures { Stepped (M.Map.graph map.now word.now stem) spot work.old work.new result }
-{
-    let node = work[spot.cur].node;
-    let up = parent(work, spot.cur);
-    let made = retire(map, word, stem, work, spot);
-    let top = spot.top - (spot.size - spot.cur);
-    if spot.cur == 0 {
-        return Spot {
-            size: 0,
-            top,
-            cur: 0,
+impl<'w> Search<'w> {
+    // Pushes a new node, if there is room.
+    pub(crate) fn enter(&mut self, next: u64) -> Result<(), SearchFault>
+        requires { (self.old.spot.size ≤ self.old.spot.top) × ((self.old.spot.top ≤ length self.old.work.now) × (self.old.spot.cur < 65536)) }
+        ensures same_table { SameTable self.old.work self.new.work }
+        ensures entered { MatchResult result (λ _. Entered self.old.spot next self.old.work.now self.new.work.now self.new.spot) (Crowded self.old.spot) }
+    {
+        let Spot { size, top, cur, .. } = self.spot;
+        if size == top {
+            return Err(SearchFault::Full);
+        }
+        self.work[size] = Record::entered(next, cur, size);
+        self.spot = Spot {
+            size: size + 1,
+            cur: size,
             from: 0,
-            found: made.found,
+            ..self.spot
         };
+        Ok(())
     }
-    let from = resume(work, up, node);
-    Spot {
-        size: spot.cur,
-        top,
-        cur: up,
-        from,
-        found: made.found,
-    }
-}
 
-// Goes on from an explored place.
-fn finish<M: Map>(map: &M, word: &[u8], stem: usize, work: &mut [Record], spot: Spot) -> Spot
-    requires few { length work.old ≤ 65536 }
-    requires explored { Explored (M.Map.graph map.now word.now stem) spot.size spot.top spot.cur spot.found work.old }
-    ensures { Stepped (M.Map.graph map.now word.now stem) spot work.old work.new result }
-{
-    if low_link(work, spot.cur) < spot.cur {
-        leave(work, spot)
-    } else {
-        close(map, word, stem, work, spot)
+    // Goes on at a place, behind a node.
+    fn go_on(&mut self, place: usize, node: u64)
+        requires { (place < length self.old.work.now) × (letter_at self.old.work.now place < 255) }
+        ensures same_table { SameTable self.old.work self.new.work }
+        ensures goes_on { GoesOn place node self.old.spot self.old.work.now self.new.work.now self.new.spot }
+    {
+        self.spot.from = self.resume(place, node);
+        self.spot.cur = place;
     }
-}
 
-// One step, or none where a new node finds no room.
-fn step<M: Map>(map: &M, word: &[u8], stem: usize, work: &mut [Record], spot: Spot) -> Option<Spot>
-    requires few { length work.old ≤ 65536 }
-    requires going { Going (M.Map.graph map.now word.now stem) spot work.old }
-    requires some { 0 < spot.size }
-    ensures { MatchOption result (More (M.Map.graph map.now word.now stem) (length work.old)) (Stepped (M.Map.graph map.now word.now stem) spot work.old work.new) }
-{
-    match scan(map, word, stem, work, spot) {
-        Some(next) => enter(work, spot, next),
-        None => Some(finish(map, word, stem, work, spot)),
+    // Leaves the current place for its parent, which gets its low link and goes on behind its node.
+    fn leave(&mut self)
+        requires inside { self.old.spot.cur < length self.old.work.now }
+        requires parent { up_at self.old.work.now self.old.spot.cur < length self.old.work.now }
+        requires letter { letter_at self.old.work.now (up_at self.old.work.now self.old.spot.cur) < 255 }
+        ensures same_table { SameTable self.old.work self.new.work }
+        ensures stepped { (g : Graph) → Bounded g → Explored g self.old.spot.size self.old.spot.top self.old.spot.cur self.old.spot.found self.old.work.now → low_at self.old.work.now self.old.spot.cur < self.old.spot.cur → Stepped g self.old.spot self.old.work.now self.new.work.now self.new.spot }
+    {
+        let explored = self.work[self.spot.cur];
+        let up = explored.parent();
+        self.lower(up, explored.low_link());
+        self.go_on(up, explored.node);
     }
-}
 
-// Steps until the stack is empty.
-pub(crate) fn explore<M: Map>(
-    map: &M,
-    word: &[u8],
-    stem: usize,
-    work: &mut [Record],
-    spot: Spot,
-) -> Option<Spot>
-    requires few { length work.old ≤ 65536 }
-    requires going { Going (M.Map.graph map.now word.now stem) spot work.old }
-    ensures { MatchOption result (More (M.Map.graph map.now word.now stem) (length work.old)) (Rested (M.Map.graph map.now word.now stem) spot work.old work.new) }
-{
-    let mut spot = spot;
-    while spot.size > 0 {
-        match step(map, word, stem, work, spot) {
-            Some(next) => spot = next,
-            None => return None,
+    // Assesses the component of the current place, and moves it to what is done.
+    fn retire<M: Map>(&mut self, graph: &ImplicitGraph<'_, M>)
+        requires { Rooted (graph_of M.Map.graph graph.now) self.old.spot.size self.old.spot.top self.old.spot.cur self.old.spot.found self.old.work.now }
+        ensures same_table { SameTable self.old.work self.new.work }
+        ensures spot { IsRetiredSpot self.old.spot self.new.spot }
+        ensures retired { Retired (graph_of M.Map.graph graph.now) self.old.spot.size self.old.spot.top self.old.spot.cur self.old.work.now self.new.work.now self.new.spot.found }
+    {
+        let Spot { size, top, cur, .. } = self.spot;
+        let worth = self.assess(graph);
+        self.move_up(worth.unwrap_or(0));
+        self.spot.size = cur;
+        self.spot.top = top - (size - cur);
+        self.spot.found = worth.err();
+    }
+
+    // Retires the component of the current place; the parent goes on, if there is one.
+    fn close<M: Map>(&mut self, graph: &ImplicitGraph<'_, M>)
+        requires { Rooted (graph_of M.Map.graph graph.now) self.old.spot.size self.old.spot.top self.old.spot.cur self.old.spot.found self.old.work.now }
+        ensures same_table { SameTable self.old.work self.new.work }
+        ensures stepped { Stepped (graph_of M.Map.graph graph.now) self.old.spot self.old.work.now self.new.work.now self.new.spot }
+    {
+        let root = self.work[self.spot.cur];
+        self.retire(graph);
+        if self.spot.cur > 0 {
+            self.go_on(root.parent(), root.node);
         }
     }
-    Some(spot)
+
+    // Goes on from an explored place.
+    fn finish<M: Map>(&mut self, graph: &ImplicitGraph<'_, M>)
+        requires { Explored (graph_of M.Map.graph graph.now) self.old.spot.size self.old.spot.top self.old.spot.cur self.old.spot.found self.old.work.now }
+        ensures same_table { SameTable self.old.work self.new.work }
+        ensures stepped { Stepped (graph_of M.Map.graph graph.now) self.old.spot self.old.work.now self.new.work.now self.new.spot }
+    {
+        let cur = self.spot.cur;
+        if self.work[cur].low_link() < cur {
+            self.leave();
+        } else {
+            self.close(graph);
+        }
+    }
+
+    // One step, refused by 13 where a new node finds no room.
+    fn step<M: Map>(&mut self, graph: &ImplicitGraph<'_, M>) -> Result<(), SearchFault>
+        requires going { Going (graph_of M.Map.graph graph.now) self.old.spot self.old.work.now }
+        requires some { 0 < self.old.spot.size }
+        ensures same_table { SameTable self.old.work self.new.work }
+        ensures stepped { MatchResult result (λ _. Stepped (graph_of M.Map.graph graph.now) self.old.spot self.old.work.now self.new.work.now self.new.spot) (TooMany (graph_of M.Map.graph graph.now) (length self.old.work.now)) }
+    {
+        match self.scan(graph) {
+            Some(next) => self.enter(next),
+            None => {
+                self.finish(graph);
+                Ok(())
+            }
+        }
+    }
+
+    // Steps until the stack is empty. It is a function of its own in the program too: among its caller's code, the loop that
+    // looks for a node may be laid out so that it takes over twice the time.
+    #[inline(never)]
+    pub(crate) fn explore<M: Map>(
+        &mut self,
+        graph: &ImplicitGraph<'_, M>,
+    ) -> Result<(), SearchFault>
+        requires { Going (graph_of M.Map.graph graph.now) self.old.spot self.old.work.now }
+        ensures same_table { SameTable self.old.work self.new.work }
+        ensures rested { MatchResult result (λ _. Rested (graph_of M.Map.graph graph.now) self.old.spot self.old.work.now self.new.work.now self.new.spot) (TooMany (graph_of M.Map.graph graph.now) (length self.old.work.now)) }
+    {
+        while self.spot.size > 0 {
+            self.step(graph)?;
+        }
+        Ok(())
+    }
 }

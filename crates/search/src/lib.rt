@@ -3,6 +3,7 @@
 #![tactic(auto)]
 
 mod explores;
+mod graphs;
 mod records;
 mod scans;
 mod spots;

@@ -1,15 +1,44 @@
-// How far a search has come.
+// A search on its way: the table that it works in, and how far it has come.
+ghost use Rattle.std.specs.Prelude.{◌≡◌, ◌≤◌, length, None};
+
+use crate::records::Record;
 
 #[derive(Clone, Copy)]
-pub struct Spot {
+pub(crate) struct Spot {
     // the records below are the stack
-    pub size: usize,
+    pub(crate) size: usize,
     // the records from here on are done
-    pub top: usize,
+    pub(crate) top: usize,
     // the place on the stack at which the search goes on
-    pub cur: usize,
+    pub(crate) cur: usize,
     // the least node that is to be looked at there
-    pub from: u64,
+    pub(crate) from: u64,
     // a marked node on a cycle, once one is found
-    pub found: Option<u64>,
+    pub(crate) found: Option<u64>,
+}
+
+#[derive(Drop)]
+pub(crate) struct Search<'w> {
+    pub(crate) work: &'w mut [Record],
+    pub(crate) spot: Spot,
+    ghost few: { length work.now ≤ 65536 },
+}
+
+impl<'w> Search<'w> {
+    // With an empty stack, and nothing done.
+    pub(crate) fn new(work: &'w mut [Record]) -> Search<'w>
+        requires { length work.old ≤ 65536 }
+        ensures same_table { result.work.ghost_name ≡ work.entry.ghost_name }
+        ensures table { result.work.now ≡ work.old }
+        ensures spot { result.spot ≡ record { size = 0; top = length work.old; cur = 0; from = 0; found = None } }
+    {
+        let spot = Spot {
+            size: 0,
+            top: work.len(),
+            cur: 0,
+            from: 0,
+            found: None,
+        };
+        Search { work, spot }
+    }
 }

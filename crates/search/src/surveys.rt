@@ -1,19 +1,19 @@
 // The search from every start, and what it finds.
-ghost use Rattle.std.specs.Prelude.{◌≡◌, ◌-◌, ◌<◌, ◌≤◌, true, length, MatchOption, MatchResult};
-ghost use Rattle.graph.specs.Walks.{More};
-ghost use Rattle.search.specs.Searches.{Going, Visited, Swept};
-ghost use Rattle.search.specs.Changes.{Settled};
+ghost use Rattle.std.specs.Prelude.{◌≡◌, ◌≤◌, true, length, MatchResult};
+ghost use Rattle.search.specs.Changes.{SameTable};
+ghost use Rattle.search.specs.Graphs.{graph_of};
+ghost use Rattle.search.specs.Searches.{Going, Visited, Swept, TooMany};
 ghost use Rattle.search.specs.Surveys.{Allowed, TableRefused, Surveyed, Refused};
 
-use crate::explores::{enter, explore};
+use crate::graphs::ImplicitGraph;
 use crate::records::Record;
-use crate::spots::Spot;
-use crate::tables::{locate, settle};
+use crate::spots::Search;
 use fault::SearchFault;
 use graph::Map;
+use lasso::Word;
 
 // What a search found.
-#[derive(Clone, Copy)]
+#[derive(Clone, Copy, PartialEq, Eq, Debug)]
 pub struct Findings {
     // how many nodes can be reached; they stand in the first records
     pub count: usize,
@@ -31,73 +31,56 @@ pub fn check_table(work: &[Record]) -> Result<(), SearchFault>
     Ok(())
 }
 
-// Searches from a start, unless it is done.
-fn visit<M: Map>(
-    map: &M,
-    word: &[u8],
-    stem: usize,
-    work: &mut [Record],
-    spot: Spot,
-    start: u64,
-) -> Option<Spot>
-    requires few { length work.old ≤ 65536 }
-    requires going { Going (M.Map.graph map.now word.now stem) spot work.old }
-    requires empty { spot.size ≡ 0 }
-    requires start { (M.Map.graph map.now word.now stem).start start ≡ true }
-    ensures { MatchOption result (More (M.Map.graph map.now word.now stem) (length work.old)) (Visited (M.Map.graph map.now word.now stem) spot start work.old work.new) }
-{
-    if locate(work, 0, spot.top, start).is_some() {
-        return Some(spot);
+impl<'w> Search<'w> {
+    // Searches from a start, unless it is done.
+    fn visit<M: Map>(&mut self, graph: &ImplicitGraph<'_, M>, start: u64) -> Result<(), SearchFault>
+        requires going { Going (graph_of M.Map.graph graph.now) self.old.spot self.old.work.now }
+        requires empty { self.old.spot.size ≡ 0 }
+        requires start { (graph_of M.Map.graph graph.now).start start ≡ true }
+        ensures same_table { SameTable self.old.work self.new.work }
+        ensures visited { MatchResult result (λ _. Visited (graph_of M.Map.graph graph.now) self.old.spot start self.old.work.now self.new.work.now self.new.spot) (TooMany (graph_of M.Map.graph graph.now) (length self.old.work.now)) }
+    {
+        if self.is_done(start) {
+            return Ok(());
+        }
+        self.enter(start)?;
+        self.explore(graph)
     }
-    match enter(work, spot, start) {
-        Some(begun) => explore(map, word, stem, work, begun),
-        None => None,
-    }
-}
 
-// Searches from every start.
-fn sweep<M: Map>(map: &M, word: &[u8], stem: usize, work: &mut [Record]) -> Option<Spot>
-    requires few { length work.old ≤ 65536 }
-    ensures { MatchOption result (More (M.Map.graph map.now word.now stem) (length work.old)) (Swept (M.Map.graph map.now word.now stem) work.new) }
-{
-    let mut spot = Spot {
-        size: 0,
-        top: work.len(),
-        cur: 0,
-        from: 0,
-        found: None,
-    };
-    let mut from = 0;
-    while let Some(start) = map.least_start(word, stem, from) {
-        match visit(map, word, stem, work, spot, start) {
-            Some(next) => spot = next,
-            None => return None,
+    // Searches from every start.
+    fn sweep<M: Map>(&mut self, graph: &ImplicitGraph<'_, M>) -> Result<(), SearchFault>
+        requires going { Going (graph_of M.Map.graph graph.now) self.old.spot self.old.work.now }
+        requires empty { self.old.spot.size ≡ 0 }
+        ensures same_table { SameTable self.old.work self.new.work }
+        ensures swept { MatchResult result (λ _. Swept (graph_of M.Map.graph graph.now) self.new.work.now self.new.spot) (TooMany (graph_of M.Map.graph graph.now) (length self.old.work.now)) }
+    {
+        for start in graph.starts() {
+            self.visit(graph, start)?;
         }
-        if start == u64::MAX {
-            return Some(spot);
-        }
-        from = start + 1;
+        Ok(())
     }
-    Some(spot)
+
+    // Collects what is found in the first records, once nothing is left to search from.
+    fn collect<M: Map>(&mut self, graph: &ImplicitGraph<'_, M>) -> Result<Findings, SearchFault>
+        requires some { 1 ≤ length self.old.work.now }
+        requires going { Going (graph_of M.Map.graph graph.now) self.old.spot self.old.work.now }
+        requires empty { self.old.spot.size ≡ 0 }
+        ensures same_table { SameTable self.old.work self.new.work }
+        ensures collected { MatchResult result (Surveyed (graph_of M.Map.graph graph.now) self.new.work.now) (TooMany (graph_of M.Map.graph graph.now) (length self.old.work.now)) }
+    {
+        self.sweep(graph)?;
+        Ok(Findings {
+            count: self.settle(),
+            witness: self.spot.found,
+        })
+    }
 }
 
 // Collects each reachable node once, in the first records, and tells whether a marked one lies on a cycle. Refused by 7 where
 // the table has no record or more than 65,536, then by 13 where the reachable nodes are more than its records.
-pub fn survey<M: Map>(
-    map: &M,
-    word: &[u8],
-    stem: usize,
-    work: &mut [Record],
-) -> Result<Findings, SearchFault>
-    ensures { MatchResult result (Surveyed (M.Map.graph map.now word.now stem) work.new) (Refused (M.Map.graph map.now word.now stem) work.old work.new) }
+pub fn survey<M: Map>(map: &M, word: Word<'_>, work: &mut [Record]) -> Result<Findings, SearchFault>
+    ensures { MatchResult result (Surveyed (M.Map.graph map.now word.entry.elements.now word.entry.stem) work.new) (Refused (M.Map.graph map.now word.entry.elements.now word.entry.stem) work.old work.new) }
 {
     check_table(work)?;
-    let Some(spot) = sweep(map, word, stem, work) else {
-        return Err(SearchFault::Full);
-    };
-    let count = settle(work, spot.top);
-    Ok(Findings {
-        count,
-        witness: spot.found,
-    })
+    Search::new(work).collect(&ImplicitGraph { map, word })
 }

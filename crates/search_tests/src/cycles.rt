@@ -1,31 +1,21 @@
 // Searches that find a marked node on a cycle. They still collect every node.
-use crate::samples::{count_up, in_a_row, witnessed};
+use crate::samples::{count_up, in_a_row, plain, witnessed};
 use crate::{Ends, Sheet};
 use std::test::Fail;
 
-// A map with one letter and the start 0: set v of these is what node v leads to.
-fn plain(marks: u64, rows: &[u64]) -> Sheet<'_> {
-    Sheet {
-        letters: 1,
-        starts: 1,
-        marks,
-        rows,
-    }
-}
-
 #[test]
 fn self_loop(rt: HostRuntime) -> Result<(), Fail> {
-    witnessed(&rt, &plain(0b1, &[0b1]), &[0], &[0])?;
-    witnessed(&rt, &plain(0b10, &[0b10, 0b10]), &[0, 1], &[1])?;
-    witnessed(&rt, &plain(0b11, &[0b10, 0b10]), &[0, 1], &[1])
+    witnessed(&rt, &plain(1, 0b1, &[0b1]), &[0], &[0])?;
+    witnessed(&rt, &plain(1, 0b10, &[0b10, 0b10]), &[0, 1], &[1])?;
+    witnessed(&rt, &plain(1, 0b11, &[0b10, 0b10]), &[0, 1], &[1])
 }
 
 // 0 and 1 lead to each other.
 #[test]
 fn two_nodes(rt: HostRuntime) -> Result<(), Fail> {
-    witnessed(&rt, &plain(0b01, &[0b10, 0b01]), &[0, 1], &[0])?;
-    witnessed(&rt, &plain(0b10, &[0b10, 0b01]), &[0, 1], &[1])?;
-    witnessed(&rt, &plain(0b11, &[0b10, 0b01]), &[0, 1], &[0, 1])
+    witnessed(&rt, &plain(1, 0b01, &[0b10, 0b01]), &[0, 1], &[0])?;
+    witnessed(&rt, &plain(1, 0b10, &[0b10, 0b01]), &[0, 1], &[1])?;
+    witnessed(&rt, &plain(1, 0b11, &[0b10, 0b01]), &[0, 1], &[0, 1])
 }
 
 // 0, 1 and 2 in a cycle, which leads on to 3. 3 is marked too, and lies on no cycle.
@@ -33,7 +23,7 @@ fn two_nodes(rt: HostRuntime) -> Result<(), Fail> {
 fn mark_off_the_cycle(rt: HostRuntime) -> Result<(), Fail> {
     witnessed(
         &rt,
-        &plain(0b1010, &[0b10, 0b100, 0b1001]),
+        &plain(1, 0b1010, &[0b10, 0b100, 0b1001]),
         &[0, 1, 2, 3],
         &[1],
     )
@@ -43,17 +33,17 @@ fn mark_off_the_cycle(rt: HostRuntime) -> Result<(), Fail> {
 #[test]
 fn two_cycles(rt: HostRuntime) -> Result<(), Fail> {
     let rows = [0b1010, 0b100, 0b10, 0b10000, 0b1000];
-    witnessed(&rt, &plain(0b1101, &rows), &[0, 1, 2, 3, 4], &[2, 3])?;
-    witnessed(&rt, &plain(0b0101, &rows), &[0, 1, 2, 3, 4], &[2])?;
-    witnessed(&rt, &plain(0b1001, &rows), &[0, 1, 2, 3, 4], &[3])
+    witnessed(&rt, &plain(1, 0b1101, &rows), &[0, 1, 2, 3, 4], &[2, 3])?;
+    witnessed(&rt, &plain(1, 0b0101, &rows), &[0, 1, 2, 3, 4], &[2])?;
+    witnessed(&rt, &plain(1, 0b1001, &rows), &[0, 1, 2, 3, 4], &[3])
 }
 
 // 0, 1 and 2 in a cycle, and 2, 3 and 4 in another.
 #[test]
 fn joined_cycles(rt: HostRuntime) -> Result<(), Fail> {
     let rows = [0b10, 0b100, 0b1001, 0b10000, 0b100];
-    witnessed(&rt, &plain(0b10000, &rows), &[0, 1, 2, 3, 4], &[4])?;
-    witnessed(&rt, &plain(0b00010, &rows), &[0, 1, 2, 3, 4], &[1])
+    witnessed(&rt, &plain(1, 0b10000, &rows), &[0, 1, 2, 3, 4], &[4])?;
+    witnessed(&rt, &plain(1, 0b00010, &rows), &[0, 1, 2, 3, 4], &[1])
 }
 
 // 0, 1 and 2 in a cycle. 0 leads to 3 too, and 3 back to 1: its cycle goes by 1, 2 and 0.
@@ -61,7 +51,7 @@ fn joined_cycles(rt: HostRuntime) -> Result<(), Fail> {
 fn way_back_by_a_neighbour(rt: HostRuntime) -> Result<(), Fail> {
     witnessed(
         &rt,
-        &plain(0b1000, &[0b1010, 0b100, 0b1, 0b10]),
+        &plain(1, 0b1000, &[0b1010, 0b100, 0b1, 0b10]),
         &[0, 1, 2, 3],
         &[3],
     )
@@ -71,9 +61,9 @@ fn way_back_by_a_neighbour(rt: HostRuntime) -> Result<(), Fail> {
 #[test]
 fn cycle_in_a_cycle(rt: HostRuntime) -> Result<(), Fail> {
     let rows = [0b10, 0b10100, 0b1000, 0b10, 0b1];
-    witnessed(&rt, &plain(0b00001, &rows), &[0, 1, 2, 3, 4], &[0])?;
-    witnessed(&rt, &plain(0b01000, &rows), &[0, 1, 2, 3, 4], &[3])?;
-    witnessed(&rt, &plain(0b10000, &rows), &[0, 1, 2, 3, 4], &[4])
+    witnessed(&rt, &plain(1, 0b00001, &rows), &[0, 1, 2, 3, 4], &[0])?;
+    witnessed(&rt, &plain(1, 0b01000, &rows), &[0, 1, 2, 3, 4], &[3])?;
+    witnessed(&rt, &plain(1, 0b10000, &rows), &[0, 1, 2, 3, 4], &[4])
 }
 
 // A root that leads to each of 63 others, and each of them back to it.
@@ -81,21 +71,22 @@ fn cycle_in_a_cycle(rt: HostRuntime) -> Result<(), Fail> {
 fn star(rt: HostRuntime) -> Result<(), Fail> {
     let mut rows = [1; 64];
     rows[0] = u64::MAX - 1;
-    let mut nodes = [0; 64];
-    count_up(&mut nodes);
-    witnessed(&rt, &plain(1, &rows), &nodes, &[0])?;
-    witnessed(&rt, &plain(1 << 63, &rows), &nodes, &[63])?;
-    witnessed(&rt, &plain((1 << 1) + (1 << 40), &rows), &nodes, &[1, 40])
+    let nodes = count_up();
+    witnessed(&rt, &plain(1, 1, &rows), &nodes, &[0])?;
+    witnessed(&rt, &plain(1, 1 << 63, &rows), &nodes, &[63])?;
+    witnessed(
+        &rt,
+        &plain(1, (1 << 1) + (1 << 40), &rows),
+        &nodes,
+        &[1, 40],
+    )
 }
 
 // 64 nodes in a cycle, of which 17 is marked.
 #[test]
 fn large_cycle(rt: HostRuntime) -> Result<(), Fail> {
-    let mut rows = [1; 64];
-    let mut nodes = [0; 64];
-    in_a_row(&mut rows);
-    count_up(&mut nodes);
-    witnessed(&rt, &plain(1 << 17, &rows), &nodes, &[17])
+    let rows = in_a_row(1);
+    witnessed(&rt, &plain(1, 1 << 17, &rows), &count_up(), &[17])
 }
 
 // The second start's cycle is found though the first start has none, and the first one's though the second has none.

@@ -2,6 +2,7 @@
 ghost use Rattle.search_tests.specs.Ends.{ends, ends_bounded};
 
 use graph::Map;
+use lasso::Word;
 
 // The nodes are 0 and 2^64 - 1, and both are starts. By each of two letters 0 leads to the other, and that one, if it loops,
 // to itself.
@@ -16,27 +17,27 @@ impl Map for Ends {
 
     ghost bounds = { λ m word stem. ends_bounded m.loops m.marked };
 
-    fn letters(&self, word: &[u8], stem: usize) -> u8 {
+    fn letters(&self, word: Word<'_>) -> u8 {
         2
     }
 
-    fn is_node(&self, word: &[u8], stem: usize, v: u64) -> bool {
+    fn is_node(&self, word: Word<'_>, v: u64) -> bool {
         v == 0 || v == u64::MAX
     }
 
-    fn is_start(&self, word: &[u8], stem: usize, v: u64) -> bool {
-        v == 0 || v == u64::MAX
+    fn is_start(&self, word: Word<'_>, v: u64) -> bool {
+        self.is_node(word, v)
     }
 
-    fn is_marked(&self, word: &[u8], stem: usize, v: u64) -> bool {
-        self.marked && (v == 0 || v == u64::MAX)
+    fn is_marked(&self, word: Word<'_>, v: u64) -> bool {
+        self.marked && self.is_node(word, v)
     }
 
-    fn least_start(&self, word: &[u8], stem: usize, from: u64) -> Option<u64> {
+    fn least_start(&self, word: Word<'_>, from: u64) -> Option<u64> {
         if from == 0 { Some(0) } else { Some(u64::MAX) }
     }
 
-    fn least_next(&self, word: &[u8], stem: usize, v: u64, letter: u8, from: u64) -> Option<u64> {
+    fn least_next(&self, word: Word<'_>, v: u64, letter: u8, from: u64) -> Option<u64> {
         if letter >= 2 {
             return None;
         }

@@ -1,17 +1,7 @@
 // Searches that find no marked node on a cycle: the greatest number of marked nodes on a walk from each node.
-use crate::samples::{alike, falling, in_a_row, measured};
+use crate::samples::{alike, falling, in_a_row, measured, plain};
 use crate::{Ends, Sheet};
 use std::test::Fail;
-
-// A map with one letter: set v of these is what node v leads to.
-fn plain(starts: u64, marks: u64, rows: &[u64]) -> Sheet<'_> {
-    Sheet {
-        letters: 1,
-        starts,
-        marks,
-        rows,
-    }
-}
 
 #[test]
 fn no_start(rt: HostRuntime) -> Result<(), Fail> {
@@ -55,11 +45,7 @@ fn chain(rt: HostRuntime) -> Result<(), Fail> {
 // All 64 nodes in a row and marked.
 #[test]
 fn longest_chain(rt: HostRuntime) -> Result<(), Fail> {
-    let mut rows = [0; 64];
-    let mut nodes = [(0, 0); 64];
-    in_a_row(&mut rows);
-    falling(&mut nodes);
-    measured(&rt, &plain(1, u64::MAX, &rows), &nodes)
+    measured(&rt, &plain(1, u64::MAX, &in_a_row(0)), &falling())
 }
 
 // 0 leads to 3 by 1 and by 2. 3 and one of the two are marked.
@@ -154,10 +140,8 @@ fn cycle_met_again(rt: HostRuntime) -> Result<(), Fail> {
 // A cycle of 60 nodes. From its node 30 on come 60, 61, 62 and 63, of which all but 62 are marked.
 #[test]
 fn large_cycle(rt: HostRuntime) -> Result<(), Fail> {
-    let mut rows = [0; 64];
-    let mut nodes = [(0, 0); 64];
-    in_a_row(&mut rows);
-    alike(&mut nodes, 3);
+    let mut rows = in_a_row(0);
+    let mut nodes = alike(3);
     rows[59] = 1;
     rows[30] = (1 << 31) + (1 << 60);
     nodes[61] = (61, 2);
@@ -199,8 +183,7 @@ fn starts_in_reach(rt: HostRuntime) -> Result<(), Fail> {
 fn star(rt: HostRuntime) -> Result<(), Fail> {
     let mut rows = [1; 64];
     rows[0] = u64::MAX - 1;
-    let mut nodes = [(0, 0); 64];
-    alike(&mut nodes, 0);
+    let mut nodes = alike(0);
     measured(&rt, &plain(1, 0, &rows), &nodes)?;
     nodes[0] = (0, 1);
     nodes[40] = (40, 1);
@@ -210,8 +193,7 @@ fn star(rt: HostRuntime) -> Result<(), Fail> {
 // Every node leads to every node.
 #[test]
 fn complete(rt: HostRuntime) -> Result<(), Fail> {
-    let mut nodes = [(0, 0); 64];
-    alike(&mut nodes, 0);
+    let nodes = alike(0);
     measured(&rt, &plain(1, 0, &[u64::MAX; 64]), &nodes)?;
     measured(&rt, &plain(u64::MAX, 0, &[u64::MAX; 64]), &nodes)
 }

@@ -1,6 +1,11 @@
 // What a search is expected to find. The order of the nodes is free.
+ghost use Rattle.std.specs.Prelude.{◌<◌};
+
+use crate::Sheet;
 use graph::Map;
+use lasso::Word;
 use search::{Record, survey};
+use std::array;
 use std::process::Abort;
 use std::test::Fail;
 
@@ -11,52 +16,58 @@ pub(crate) const USED: Record = Record {
     measure: 77,
 };
 
-// Each node leads to the one after it, but 63.
-pub(crate) fn in_a_row(rows: &mut [u64]) {
-    for v in 0..rows.len() {
-        if v < 63 {
-            rows[v] = 2 << v;
-        }
+// The maps are the same for every word.
+pub(crate) const WORD: Word<'static> = Word {
+    elements: &[],
+    stem: 0,
+};
+
+// A map with one letter: set v of these is what node v leads to.
+pub(crate) fn plain(starts: u64, marks: u64, rows: &[u64]) -> Sheet<'_> {
+    Sheet {
+        letters: 1,
+        starts,
+        marks,
+        rows,
     }
+}
+
+// Each node leads to the one after it, and 63 to these.
+pub(crate) fn in_a_row(last: u64) -> [u64; 64] {
+    array::from_fn(|v| if v < 63 { 2 << v } else { last })
 }
 
 // The nodes from 0 on, each with this measure.
-pub(crate) fn alike(nodes: &mut [(u64, u32)], measure: u32) {
-    for v in 0..nodes.len() {
-        nodes[v] = (v as u64, measure);
-    }
+pub(crate) fn alike(measure: u32) -> [(u64, u32); 64] {
+    array::from_fn(|v| (v as u64, measure))
 }
 
 // The nodes from 0 on, with measures from 64 down.
-pub(crate) fn falling(nodes: &mut [(u64, u32)]) {
-    for v in 0..nodes.len() {
-        if v < 64 {
-            nodes[v] = (v as u64, 64 - v as u32);
-        }
-    }
+pub(crate) fn falling() -> [(u64, u32); 64] {
+    array::from_fn(
+        |v|
+            requires { v < 64 }
+        { (v as u64, 64 - v as u32) },
+    )
 }
 
 // The nodes from 0 on.
-pub(crate) fn count_up(nodes: &mut [u64]) {
-    for v in 0..nodes.len() {
-        nodes[v] = v as u64;
-    }
+pub(crate) fn count_up() -> [u64; 64] {
+    array::from_fn(|v| v as u64)
 }
 
 // The measure of a node among the first records.
 fn measure_of(work: &[Record], count: usize, node: u64) -> Option<u32> {
-    for record in work.iter().take(count) {
-        if record.node == node {
-            return Some(record.measure);
-        }
-    }
-    None
+    work.iter()
+        .take(count)
+        .find(|record| record.node == node)
+        .map(|record| record.measure)
 }
 
 // No marked node lies on a cycle, and these are the nodes with their measures.
 pub(crate) fn measured<M: Map>(rt: &impl Abort, map: &M, nodes: &[(u64, u32)]) -> Result<(), Fail> {
     let mut work = [USED; 80];
-    let found = survey(map, &[], 0, &mut work)?;
+    let found = survey(map, WORD, &mut work)?;
     assert_eq!(rt; found.witness, None);
     assert_eq!(rt; found.count, nodes.len());
     for (node, measure) in nodes {
@@ -78,7 +89,7 @@ pub(crate) fn witnessed<M: Map>(
     witnesses: &[u64],
 ) -> Result<(), Fail> {
     let mut work = [USED; 80];
-    let found = survey(map, &[], 0, &mut work)?;
+    let found = survey(map, WORD, &mut work)?;
     assert_eq!(rt; found.count, nodes.len());
     for node in nodes {
         assert!(rt;
@@ -87,10 +98,11 @@ pub(crate) fn witnessed<M: Map>(
             *node
         );
     }
-    let Some(witness) = found.witness else {
-        return Err(Fail::new("no witness"));
-    };
-    let named = witnesses.iter().any(|node| *node == witness);
-    assert!(rt; named, "another witness: {}", witness);
+    let witness = found.witness.ok_or_else(|| Fail::new("no witness"))?;
+    assert!(rt;
+        witnesses.contains(&witness),
+        "another witness: {}",
+        witness
+    );
     Ok(())
 }

@@ -1,8 +1,8 @@
 // A map of any number of nodes, of which each leads to as many: the least is found without a search.
-ghost use Rattle.graph.specs.Least.{Least};
 ghost use Rattle.timing.specs.Bands.{band, band_bounded};
 
 use graph::Map;
+use lasso::Word;
 
 // The nodes stand in a row, and each leads to as many after it as it reaches, and to those after it that are in the tail,
 // the last nodes of the row. Where the row wraps, the last ones lead on to the first. 0 is the start, and every third node
@@ -21,23 +21,23 @@ impl Map for Band {
 
     ghost bounds = { λ m word stem. band_bounded m.nodes m.reach m.tail m.wraps m.marked };
 
-    fn letters(&self, word: &[u8], stem: usize) -> u8 {
+    fn letters(&self, word: Word<'_>) -> u8 {
         1
     }
 
-    fn is_node(&self, word: &[u8], stem: usize, v: u64) -> bool {
+    fn is_node(&self, word: Word<'_>, v: u64) -> bool {
         v < self.nodes as u64
     }
 
-    fn is_start(&self, word: &[u8], stem: usize, v: u64) -> bool {
+    fn is_start(&self, word: Word<'_>, v: u64) -> bool {
         v == 0 && v < self.nodes as u64
     }
 
-    fn is_marked(&self, word: &[u8], stem: usize, v: u64) -> bool {
+    fn is_marked(&self, word: Word<'_>, v: u64) -> bool {
         v < self.nodes as u64 && self.marked && v % 3 == 0
     }
 
-    fn least_start(&self, word: &[u8], stem: usize, from: u64) -> Option<u64> {
+    fn least_start(&self, word: Word<'_>, from: u64) -> Option<u64> {
         if from == 0 && self.nodes > 0 {
             Some(0)
         } else {
@@ -45,30 +45,24 @@ impl Map for Band {
         }
     }
 
-    fn least_next(&self, word: &[u8], stem: usize, v: u64, letter: u8, from: u64) -> Option<u64> {
-        least_next(*self, v, letter, from)
+    fn least_next(&self, word: Word<'_>, v: u64, letter: u8, from: u64) -> Option<u64> {
+        // a node that v leads to around the end stands before all others
+        let n = self.nodes as u64;
+        if v >= n || letter > 0 || from >= n {
+            return None;
+        }
+        let last = v + self.reach as u64;
+        if self.wraps && from + n <= last {
+            return Some(from);
+        }
+        let next = from.max(v + 1);
+        if next >= n {
+            return None;
+        }
+        if next <= last {
+            return Some(next);
+        }
+        let far = next.max(n.saturating_sub(self.tail as u64));
+        if far < n { Some(far) } else { None }
     }
-}
-
-// A node that v leads to around the end stands before all others.
-fn least_next(map: Band, v: u64, letter: u8, from: u64) -> Option<u64>
-    ensures { Least ((band map.nodes map.reach map.tail map.wraps map.marked).edge v letter) from result }
-{
-    let n = map.nodes as u64;
-    if v >= n || letter > 0 || from >= n {
-        return None;
-    }
-    let last = v + map.reach as u64;
-    if map.wraps && from + n <= last {
-        return Some(from);
-    }
-    let next = from.max(v + 1);
-    if next >= n {
-        return None;
-    }
-    if next <= last {
-        return Some(next);
-    }
-    let far = next.max(n.saturating_sub(map.tail as u64));
-    if far < n { Some(far) } else { None }
 }

@@ -6,6 +6,7 @@ mod bands;
 
 use anyhow::anyhow;
 use bands::Band;
+use lasso::Word;
 use search::{Record, survey};
 use std::time::Instant;
 use std::{env, io};
@@ -16,15 +17,19 @@ const BLANK: Record = Record {
     measure: 0,
 };
 
+// The maps are the same for every word.
+const WORD: Word<'static> = Word {
+    elements: &[],
+    stem: 0,
+};
+
 // One search, in a table of 65,536 records.
 fn time(rt: &HostRuntime, name: &str, map: Band) -> anyhow::Result<()> {
     let mut work = vec![in rt.alloc(); BLANK; 65_536]?;
     let begun = Instant::now(rt)?;
-    let result = survey(&map, &[], 0, work.as_mut_slice());
+    let result = survey(&map, WORD, work.as_mut_slice());
     let spent = begun.elapsed(rt)?.as_micros();
-    let Ok(found) = result else {
-        return Err(anyhow!("the search is refused"));
-    };
+    let found = result.map_err(|_| anyhow!("the search is refused"))?;
     let count = found.count;
     let witness = if found.witness.is_some() { "yes" } else { "no" };
     println!(rt; "{name} {count} {witness} {spent}")?;
@@ -43,29 +48,18 @@ fn time_all(rt: &HostRuntime, nodes: u32) -> anyhow::Result<()> {
     };
     time(rt, "row", row)?;
     let far = Band {
-        nodes,
         reach: 1,
         tail: 79,
-        wraps: false,
-        marked: true,
+        ..row
     };
     time(rt, "far-row", far)?;
-    let ring = Band {
-        nodes,
-        reach: 80,
-        tail: 0,
-        wraps: true,
+    let ring = Band { wraps: true, ..row };
+    let unmarked = Band {
         marked: false,
+        ..ring
     };
-    time(rt, "ring", ring)?;
-    let marked = Band {
-        nodes,
-        reach: 80,
-        tail: 0,
-        wraps: true,
-        marked: true,
-    };
-    time(rt, "marked-ring", marked)
+    time(rt, "ring", unmarked)?;
+    time(rt, "marked-ring", ring)
 }
 
 fn figures(rt: &HostRuntime) -> anyhow::Result<()> {
@@ -85,12 +79,7 @@ fn figures(rt: &HostRuntime) -> anyhow::Result<()> {
 
 // Was the word given?
 fn is_asked(rt: &HostRuntime) -> io::Result<bool> {
-    for word in env::args(rt)? {
-        if word.as_str() == "figures" {
-            return Ok(true);
-        }
-    }
-    Ok(false)
+    Ok(env::args(rt)?.any(|word| word.as_str() == "figures"))
 }
 
 fn run(rt: &HostRuntime) -> anyhow::Result<()> {

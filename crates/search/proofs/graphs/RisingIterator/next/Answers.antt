@@ -1,0 +1,18 @@
+use Rattle.std.proofs.Common.{refl}
+use Rattle.search.specs.Graphs.{graph_of, among}
+use Rattle.search.proofs.Rising.{among_below, next_found}
+use Rattle.search.proofs.graphs.RisingIterator.next.Goals as goal
+
+pub returns-clause-steps : goal.returns-clause-steps
+returns-clause-steps g c =
+    let s = c.args.self.now in
+    let m = graph_of g.M.Map.graph s.graph in
+    let bounds = g.M.Map.bounds s.graph.map.now s.graph.word.elements.now s.graph.word.stem in
+    record {
+      same_graph = refl;
+      same_nodes = refl;
+      gives =
+          rw c.in_ok-self.was
+          (next_found (among m s.nodes) c.in_ok-self.field-0 c.in_ok-next.next (among_below m bounds s.nodes)
+          c.in_ok-next.ensures c.checked_add-self.result c.checked_add-self.ensures);
+    }

@@ -1,0 +1,25 @@
+use Rattle.std.proofs.Common.{◌≡◌, ap, arith}
+use Rattle.search.specs.Graphs.{graph_of}
+use Rattle.search.proofs.Retiring.{step_emptied, step_retired}
+use Rattle.search.proofs.spots.Search.close.Goals as goal
+
+pub returns-then-self-gt0-clause-stepped : goal.returns-then-self-gt0-clause-stepped
+returns-then-self-gt0-clause-stepped g c =
+    let q = c.requires.here.going in
+    let s = c.args.self.now in
+    let word = c.args.graph.now.word in
+    let mid = c.retire.new.self in
+    let work = c.go_on.new.self in
+    let stays : mid.spot.cur ≡ s.spot.cur = ap (λ p. p.cur) c.retire.ensures.spot in
+    step_retired (graph_of g.M.Map.graph c.args.graph.now) s.spot mid.spot work.spot c.parent.result s.work.now mid.work.now work.work.now
+    (g.M.Map.bounds c.args.graph.now.map.now word.elements.now word.stem) (omega (arith, stays, c.if-self-gt0.true)) q.tree.inside q.held.stack c.parent.ensures
+    c.retire.ensures.spot c.retire.ensures.retired c.go_on.ensures.same_table.len c.go_on.ensures.goes_on
+
+pub returns-else-self-gt0-clause-stepped : goal.returns-else-self-gt0-clause-stepped
+returns-else-self-gt0-clause-stepped g c =
+    let q = c.requires.here.going in
+    let s = c.args.self.now in
+    let work = c.retire.new.self in
+    let stays : work.spot.cur ≡ s.spot.cur = ap (λ p. p.cur) c.retire.ensures.spot in
+    step_emptied (graph_of g.M.Map.graph c.args.graph.now) s.spot work.spot s.work.now work.work.now
+    (omega (arith, stays, c.if-self-gt0.false)) (omega (arith, q.tree.inside)) q.held.stack c.retire.ensures.spot c.retire.ensures.retired

@@ -1,0 +1,19 @@
+use Rattle.std.proofs.Common.{◌<◌, sym, subst, arith}
+use Rattle.search.specs.Tables.{letter_at}
+use Rattle.search.proofs.Leaving.{step_left}
+use Rattle.search.proofs.Moves.{changed_letter}
+use Rattle.search.proofs.spots.Search.leave.Goals as goal
+
+pub go_on-requires : goal.go_on-requires
+go_on-requires c =
+    let work = c.args.self.now.work.now in
+    let letter = changed_letter _ _ _ _ _ c.lower.ensures.changed in
+    let up = c.parent-up.ensures in
+    let left : letter_at work c.parent-up.result < 255 = subst (λ y. letter_at work y < 255) (sym up) c.requires.letter in
+    (omega (arith, c.lower.ensures.same_table, c.requires.parent), omega arith)
+
+pub returns-clause-stepped : goal.returns-clause-stepped
+returns-clause-stepped c g b e falls =
+    let s = c.args.self.now in
+    step_left g s.spot c.lower.new.self.spot c.go_on.new.self.spot c.parent-up.result c.low_link.result s.work.now c.lower.new.self.work.now c.go_on.new.self.work.now
+    b e falls c.parent-up.ensures c.low_link.ensures c.lower.ensures.same_table.len c.lower.ensures.changed c.lower.ensures.spot c.go_on.ensures.same_table.len c.go_on.ensures.goes_on

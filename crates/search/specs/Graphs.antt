@@ -1,0 +1,14 @@
+-- The graph for which a map answers, with a word.
+use Rattle.std.specs.Prelude.{ℕ, Bool, List}
+use Rattle.graph.specs.Graphs.{Graph}
+use Rattle.search.specs.declared.graphs.ImplicitGraph.{ImplicitGraph}
+use Rattle.search.specs.declared.graphs.Nodes.{Nodes}
+use Rattle.search.specs.declared.graphs.Nodes.TheVariants.{Starts, Successors}
+
+abbrev pub graph_of : {M : Type 0} → (M → List ℕ → ℕ → Graph) → ImplicitGraph M → Graph
+graph_of graph g = graph g.map.now g.word.elements.now g.word.stem
+
+-- these nodes of a graph
+abbrev pub among : Graph → Nodes → ℕ → Bool
+among g Starts = g.start
+among g (Successors v letter) = g.edge v letter

@@ -1,0 +1,28 @@
+-- Nodes that come in rising order.
+use Rattle.std.specs.Prelude.{◌≡◌, ℕ, ◌-◌, ◌^◌, ◌<◌, Bool, true, List, Some, None, Option, ◌⊎◌}
+use Rattle.std.specs.Iterator.{Count, at_most}
+use Rattle.graph.specs.Graphs.{Graph}
+use Rattle.search.specs.declared.graphs.Rising.{Rising}
+use Rattle.search.specs.Graphs.{graph_of, among}
+
+-- w is below where they go on, and nothing is left of them if that is nowhere
+abbrev pub Passed : Option ℕ → ℕ → Type 0
+Passed None w = Unit {0}
+Passed (Some from) w = w < from
+
+-- as many numbers at most are left
+abbrev pub numbers_from : Option ℕ → Count
+numbers_from None = at_most 0
+numbers_from (Some from) = at_most (2 ^ 64 - from)
+
+-- the next of those that P tells, or the end of them
+abbrev pub Next : (ℕ → Bool) → Option ℕ → Option ℕ → Option ℕ → Type 0
+Next P from None after = (w : ℕ) → P w ≡ true → Passed from w
+Next P from (Some v) after =
+    (P v ≡ true) × ((w : ℕ) → P w ≡ true → Passed after w → Passed from w ⊎ (w ≡ v))
+    × ((w : ℕ) → Passed from w → Passed after w) × Passed after v
+
+pub record Rises {M : Type 0} (graph : M → List ℕ → ℕ → Graph) (s : Rising M) (r : Option ℕ) (t : Rising M) : Type 0 where
+  pub same_graph : t.graph ≡ s.graph
+  pub same_nodes : t.nodes ≡ s.nodes
+  pub gives : Next (among (graph_of graph s.graph) s.nodes) s.from r t.from
