@@ -1,6 +1,6 @@
 // The union of two charts, each of any kind: the states of the first, then those of the second. The seam is where the
 // second's begin.
-ghost use Rattle.std.specs.Prelude.{◌≡◌, ◌+◌, ◌≤◌, Decides, MatchResult};
+ghost use Rattle.std.specs.Prelude.{◌≡◌, ◌+◌, ◌≤◌, MatchResult};
 
 use crate::fitting::Fitted;
 use crate::interface::Chart;

@@ -7,13 +7,13 @@ mod tests {
     use fault::{ChartFault, Fault, TextFault};
     use std::test::Fail;
 
-    // The number that a table of n states and k letters is refused by, or 0.
+    // The number that a table of n states and k letters is refused by, or 0: numbers are what these tests are of.
     fn refused(n: u8, k: u8, rows: &[u32]) -> u8 {
         let made = Table::new(n, k, 0, 0, rows);
         made.err().map_or(0, |e| e.number())
     }
 
-    // The number that a union of tables of so many states and letters is refused by, or 0.
+    // The number that a union of tables of so many states and letters is refused by, or 0: likewise.
     fn disunited(n: u8, k: u8, m: u8, l: u8) -> Result<u8, ChartFault> {
         let rows = [0; 64];
         let first = Table::new(n, k, 0, 0, &rows)?;

@@ -6,6 +6,7 @@ use Rattle.std.proofs.lemmas.Bool.{cases_lt, cond-true, cond-false, lt-ltb, le-l
 use Rattle.graph.specs.Graphs.{Graph, Bounded}
 use Rattle.graph.specs.Walks.{Edge, Reach, begin, go, here, next, Path, MarkedCycle}
 use Rattle.numbers.proofs.Pigeonhole.{pigeonhole}
+use Rattle.graph.proofs.Paths.{path_join}
 
 -- an edge leads from the node at place k to the one at the next place
 abbrev pub Goes : Graph → (ℕ → ℕ) → (ℕ → ℕ) → ℕ → Type 0
@@ -175,10 +176,6 @@ module _ (g : Graph) where
       let s = edges i (omega arith) in
       next (by i, s.0, s.1) (path_along at by d (suc i) j (omega arith) edges)
 
-  path_on : {w v u : ℕ} → Path g u v → Path g v w → Path g u w
-  path_on here q = q
-  path_on (next e p) q = next e (path_on p q)
-
   pub loop_cycle : Loop g → MarkedCycle g
   loop_cycle l =
       let k = l.passes.0 in
@@ -191,6 +188,6 @@ module _ (g : Graph) where
         record {
           reached = reach_along l.at l.by l.starts k (λ i h. l.edges i (omega arith));
           marked = l.passes.3;
-          cycle = (l.at (suc k), (l.by k, e.0, e.1), path_on onward (subst (λ x. Path g x (l.at k)) l.closes back));
+          cycle = (l.at (suc k), (l.by k, e.0, e.1), path_join g (l.at k) onward (subst (λ x. Path g x (l.at k)) l.closes back));
         },
       )

@@ -9,7 +9,7 @@ use lasso::Word;
 
 // A map is a finite graph that answers questions. Each question is also handed a word: a map may depend on it.
 pub trait Map {
-    // the graph for a word
+    // the graph for a word: for its letters and its stem, and not for the reference by which they are lent
     ghost graph: { Self → List ℕ → ℕ → Graph };
 
     // it keeps the bounds of graphs

@@ -3,11 +3,16 @@ use Rattle.std.specs.Prelude.{ℕ, ◌<◌, ◌≤◌, List, length, slice_index
 use Rattle.fault.specs.declared.LassoFault.{LassoFault}
 use Rattle.fault.specs.declared.LassoFault.TheVariants.{Limits, Letter}
 use Rattle.lasso.specs.Positions.{IsLasso}
+use Rattle.lasso.specs.declared.positions.Lasso.{Lasso}
 
 -- a lasso of n elements with a stem of j
 abbrev pub LassoRefused : ℕ → ℕ → LassoFault → Type 0
 LassoRefused n j Limits = IsLasso n j → ⊥
 LassoRefused n j Letter = ⊥
+
+-- the same of elements that are lent
+abbrev pub IsRefused : {A : Type 0} → Lasso A → LassoFault → Type 0
+IsRefused l = LassoRefused (length l.elements.now) l.stem
 
 -- a word for charts of so many letters
 abbrev pub WordRefused : ℕ → List ℕ → ℕ → LassoFault → Type 0

@@ -7,4 +7,4 @@ mod words;
 
 pub use agreement::{acceptance_agrees, places_repeat, runs_return};
 pub use positions::Lasso;
-pub use words::Word;
+pub use words::{NO_WORD, Word};

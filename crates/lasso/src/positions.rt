@@ -14,11 +14,11 @@ pub struct Lasso<'a, T> {
 impl<'a, T> Lasso<'a, T> {
     ghost use Rattle.lasso.specs.Found.{PlaceAt, PlaceAfter};
     ghost use Rattle.lasso.specs.Positions.{IsLasso};
-    ghost use Rattle.lasso.specs.Refused.{LassoRefused};
+    ghost use Rattle.lasso.specs.Refused.{IsRefused};
 
     // Refused by `Limits` where there is no element or more than 131,072, or the stem is not below the length.
     pub fn check(&self) -> Result<(), LassoFault>
-        ensures { MatchResult result (λ _. IsLasso (length self.now.elements.now) self.now.stem) (LassoRefused (length self.now.elements.now) self.now.stem) }
+        ensures { MatchResult result (λ _. IsLasso (length self.now.elements.now) self.now.stem) (IsRefused self.now) }
     {
         let n = self.elements.len();
         if n <= 131_072 && self.stem < n {
@@ -30,7 +30,7 @@ impl<'a, T> Lasso<'a, T> {
 
     // The place at which a position stands.
     pub fn place(&self, position: usize) -> Result<usize, LassoFault>
-        ensures { MatchResult result (PlaceAt (length self.now.elements.now) self.now.stem position) (LassoRefused (length self.now.elements.now) self.now.stem) }
+        ensures { MatchResult result (PlaceAt (length self.now.elements.now) self.now.stem position) (IsRefused self.now) }
     {
         self.check()?;
         let n = self.elements.len();
@@ -42,7 +42,7 @@ impl<'a, T> Lasso<'a, T> {
 
     // The place after a place.
     pub fn after(&self, at: usize) -> Result<usize, LassoFault>
-        ensures { MatchResult result (PlaceAfter (length self.now.elements.now) self.now.stem at) (LassoRefused (length self.now.elements.now) self.now.stem) }
+        ensures { MatchResult result (PlaceAfter (length self.now.elements.now) self.now.stem at) (IsRefused self.now) }
     {
         self.check()?;
         if at < self.elements.len() - 1 {
@@ -55,11 +55,11 @@ impl<'a, T> Lasso<'a, T> {
 
 impl<'a, T: Copy> Lasso<'a, T> {
     ghost use Rattle.lasso.specs.Found.{ElementAt};
-    ghost use Rattle.lasso.specs.Refused.{LassoRefused};
+    ghost use Rattle.lasso.specs.Refused.{IsRefused};
 
     // The element at a position.
     pub fn element(&self, position: usize) -> Result<T, LassoFault>
-        ensures { MatchResult result (ElementAt self.now.elements.now self.now.stem position) (LassoRefused (length self.now.elements.now) self.now.stem) }
+        ensures { MatchResult result (ElementAt self.now.elements.now self.now.stem position) (IsRefused self.now) }
     {
         let at = self.place(position)?;
         Ok(self.elements[at])

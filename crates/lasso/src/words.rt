@@ -8,6 +8,12 @@ use fault::LassoFault;
 
 pub type Word<'a> = Lasso<'a, u8>;
 
+// No letters, for what is the same for every word.
+pub const NO_WORD: Word<'static> = Lasso {
+    elements: &[],
+    stem: 0,
+};
+
 impl<'a> Word<'a> {
     // Refused by `Limits` as `check` does, then by `Letter` where some letter is not below `letters`.
     pub fn check_letters(&self, letters: u8) -> Result<(), LassoFault>

@@ -14,12 +14,9 @@ fn told(heap: Global, elements: usize, stem: usize) -> Result<Result<(), LassoFa
     Ok(lasso.check())
 }
 
-// The number of a refusal, or 0.
+// The number of a refusal, or 0: numbers are what these tests are of.
 fn number<T: Drop>(told: Result<T, LassoFault>) -> u8 {
-    match told {
-        Ok(_) => 0,
-        Err(e) => e.number(),
-    }
+    told.err().map_or(0, |e| e.number())
 }
 
 // The numbers by which the four functions refuse a lasso of so many elements, or 0.

@@ -51,7 +51,7 @@ impl<'a, C: Chart> ChartMap<'a, C> {
         ChartMap { chart }
     }
 
-    // Is q a start?
+    // Is q a start? It is the map's question without a word, for the look-up.
     fn has_start(&self, q: u64) -> bool
         ensures { result ≡ (C.Chart.meaning self.now.chart.now).start q }
     {

@@ -8,15 +8,8 @@ use crate::charts::ChartMap;
 use crate::words::WordMap;
 use chart::Chart;
 use fault::{MemberFault, SearchFault};
-use graph::Map;
-use lasso::{Lasso, Word};
+use lasso::{NO_WORD, Word};
 use search::{Findings, Record, check_table, survey};
-
-// No word: the states of a chart are searched for none.
-const NO_WORD: Word<'static> = Lasso {
-    elements: &[],
-    stem: 0,
-};
 
 // Does a reachable marked node lie on a cycle?
 fn has_cycle(found: Findings) -> bool

@@ -1,5 +1,6 @@
-// A chart along a word as a map. Its nodes are the word's places with the chart's states, as place * 32 + state.
-ghost use Rattle.std.specs.Prelude.{◌≡◌, ◌/◌, ◌&&◌, length, ◌==◌, slice_index};
+// A chart along a word as a map. Its nodes are the word's places with the chart's states, as place * 32 + state: a map's nodes
+// are numbers.
+ghost use Rattle.std.specs.Prelude.{◌≡◌, ◌/◌, ◌&&◌, ◌==◌, slice_index};
 ghost use Rattle.member.specs.Bounds.{word_bounded};
 ghost use Rattle.member.specs.Maps.{word_graph, word_node};
 

@@ -5,13 +5,13 @@ use fault::{Fault, LassoFault, MemberFault, SearchFault};
 use member::{Record, empty};
 use std::test::Fail;
 
-// The number that `member` is refused by, or 0.
+// The number that `member` is refused by, or 0: numbers are what these tests are of.
 fn refused<C: Chart>(chart: &C, word: &[u8], stem: usize, work: &mut [Record]) -> u8 {
     let answer = told(chart, word, stem, work);
     answer.err().map_or(0, |e| e.number())
 }
 
-// The number that `empty` is refused by, or 0.
+// The number that `empty` is refused by, or 0: likewise.
 fn refused_empty<C: Chart>(chart: &C, work: &mut [Record]) -> u8 {
     empty(chart, work).err().map_or(0, |e| e.number())
 }

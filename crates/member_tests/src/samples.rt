@@ -4,6 +4,7 @@ use fault::{MemberFault, SearchFault};
 use member::{Lasso, Record, empty, member};
 use std::alloc::{AllocError, Global};
 
+// What a table holds before a call. It stands with the tests, since a constant of the search would be for them alone.
 pub(crate) const BLANK: Record = Record {
     node: 0,
     letter: 0,
@@ -19,7 +20,7 @@ pub(crate) fn is_empty<C: Chart>(chart: &C) -> Result<bool, SearchFault> {
     empty(chart, &mut [BLANK; 32])
 }
 
-// What `member` says of the word of these letters with this stem.
+// What `member` says of the word of these letters with this stem: not handed a word, so that a test's words are a line each.
 pub(crate) fn told<C: Chart>(
     chart: &C,
     letters: &[u8],

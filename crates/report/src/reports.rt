@@ -16,7 +16,7 @@ pub enum Side {
     Rule,
 }
 
-// A chart's numbers of states and letters.
+// A chart's numbers of states and letters, to be shown: they say nothing of limits, as a chart's size does.
 #[derive(Clone, Copy, PartialEq, Eq, Debug)]
 pub struct Numbers {
     pub states: u8,
@@ -106,7 +106,7 @@ fn read_text(text: &[u8]) -> Result<Numbers, ChartFault>
     ensures { MatchResult result (Reads text.now) (FileRefused text.now) }
 {
     if text.len() > LIMIT {
-        return Err(ChartFault::Text(TextFault::Form(0)));
+        return Err(TextFault::Form(0).into());
     }
     let mut rows = [0u32; ROWS];
     Ok(load(text, &mut rows)?.into())

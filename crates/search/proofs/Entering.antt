@@ -6,7 +6,7 @@ use Rattle.graph.specs.Least.{Least}
 use Rattle.graph.specs.Walks.{Edge, Reach, go, Path, here, More}
 use Rattle.search.specs.declared.records.Record.{Record}
 use Rattle.search.specs.declared.spots.Spot.{Spot}
-use Rattle.search.specs.Searches.{Searching, Going, Fresh, Entered, Holds, Keeps, Stepped}
+use Rattle.search.specs.Searches.{Searching, Going, Fresh, Entered, Keeps, Stepped}
 use Rattle.search.specs.Tables.{node_at, letter_at, measure_at, low_at, up_at}
 use Rattle.search.specs.Trees.{Used, Upto, Held, Done, Tree, put}
 use Rattle.search.proofs.Columns.{column_set, low_of, up_of}
@@ -140,11 +140,6 @@ module _ (g : Graph) (p : Spot) (v : ℕ) (was : List Record) (room : p.size < p
       where
         new_place : (i : ℕ) → Used p.size p.top (length was) i → i ≡ p.size → ⊥
         new_place i used e = ⊎_elim (λ (a : i < p.size). omega arith) (λ (b : p.top ≤ i). omega arith) used.1
-
-    pub holds_pushed : Holds (p.size + 1) p.top (pushed p v was) v
-    holds_pushed =
-        let r : Record = record { node = v; letter = 0; measure = p.cur * 65536 + p.size } in
-        (p.size, (omega (arith, length-set was p.size r, inside), inl (omega arith)), fun_at nodes_pushed p.size ∙ put_same (node_at was) p.size v)
 
 -- the current place leads to a new node
 pub step_crowded : (g : Graph) (p : Spot) (x v : ℕ) (was : List Record) → Searching g p.size p.top p.cur x was

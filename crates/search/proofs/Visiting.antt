@@ -10,11 +10,11 @@ use Rattle.search.specs.declared.records.Record.{Record}
 use Rattle.search.specs.declared.spots.Spot.{Spot}
 use Rattle.search.specs.Changes.{Settled}
 use Rattle.search.specs.Rising.{Passed, Next}
-use Rattle.search.specs.Searches.{Going, Holds, Keeps, Entered, Crowded, TooMany, Rested, Visited, Swept}
+use Rattle.search.specs.Searches.{Going, Holds, Entered, Crowded, TooMany, Visited, Swept}
 use Rattle.search.specs.Surveys.{Collected, Told}
 use Rattle.search.specs.Tables.{node_at, letter_at, measure_at, low_at, up_at}
 use Rattle.search.specs.Trees.{At, Used, DoneTold, Tree, put}
-use Rattle.search.proofs.Entering.{crowded, going_pushed, keeps_pushed, holds_pushed, tree_start}
+use Rattle.search.proofs.Entering.{crowded, going_pushed, tree_start}
 
 -- with an empty stack, what is not done the table does not have
 pub not_done : (s top v : ℕ) (work : List Record) → s ≡ 0 → (At (node_at work) top (length work) v → ⊥)
@@ -23,42 +23,25 @@ not_done s top v work empty none i (lt, used) is =
     ⊎_elim (λ (a : i < s). absurd (omega arith)) (λ (b : top ≤ i). none (i, b, lt, is)) used
 
 -- the start is pushed onto the empty stack
-pub record Begun (g : Graph) (p : Spot) (start : ℕ) (was work : List Record) (q : Spot) : Type 0 where
-  pub going : Going g q work
-  pub keeps : Keeps p.size p.top was q.size q.top work
-  pub holds : Holds q.size q.top work start
-
 pub begin_start : (g : Graph) (p : Spot) (v : ℕ) (was work : List Record) (q : Spot) → length was ≤ 65536
     → Going g p was → p.size ≡ 0 → g.start v ≡ true
     → ((i : ℕ) → Used p.size p.top (length was) i → node_at was i ≡ v → ⊥) → Entered p v was work q
-    → Begun g p v was work q
+    → Going g q work
 begin_start g p v was work q few going empty start new (room, is, same) =
     let t : Tree g (p.size + 1) p.top (length was) p.size (put (node_at was) p.size v) (put (letter_at was) p.size 0) (put (low_at was) p.size p.size) (put (up_at was) p.size p.cur) (λ u. 0) =
     subst (λ c. Tree g (p.size + 1) p.top (length was) p.size (put (node_at was) p.size v) (put (letter_at was) p.size 0) (put (low_at was) p.size p.size) (put (up_at was) p.size c) (λ u. 0))
     (sym (going.idle empty))
     (subst (λ s. Tree g (s + 1) p.top (length was) s (put (node_at was) s v) (put (letter_at was) s 0) (put (low_at was) s s) (put (up_at was) s 0) (λ u. 0))
     (sym empty) (tree_start g p.top (length was) v (node_at was) (letter_at was) (low_at was) (up_at was))) in
-    subst (λ y. Begun g p v was work y) (sym is)
-    (subst (λ y. Begun g p v was y (record { size = p.size + 1; top = p.top; cur = p.size; from = 0; found = p.found })) (sym same)
-    (record {
-      going = going_pushed g p v was room going.held.table few going.held going.done (begin start) new (λ u. 0) refl t;
-      keeps = keeps_pushed g p v was room going.held.table few going.held going.done (begin start) new;
-      holds = holds_pushed g p v was room going.held.table few going.held going.done (begin start) new;
-    }))
+    subst (λ y. Going g y work) (sym is)
+    (subst (λ y. Going g (record { size = p.size + 1; top = p.top; cur = p.size; from = 0; found = p.found }) y) (sym same)
+    (going_pushed g p v was room going.held.table few going.held going.done (begin start) new (λ u. 0) refl t))
 
 -- or there is no room for it
 pub begin_crowded : (g : Graph) (p : Spot) (v : ℕ) (was : List Record) (fault : SearchFault) → Going g p was → g.start v ≡ true
     → ((i : ℕ) → Used p.size p.top (length was) i → node_at was i ≡ v → ⊥) → Crowded p fault → TooMany g (length was) fault
 begin_crowded g p v was Full going start new full = crowded g p.size p.top (length was) v (node_at was) going.held full (begin start) new
 begin_crowded g p v was Table going start new never = never
-
-pub visited : (g : Graph) (p q r : Spot) (v : ℕ) (was mid work : List Record) → Begun g p v was mid q → Rested g q mid work r
-    → Visited g p v was work r
-visited g p q r v was mid work begun rested =
-    record {
-      rested = record { going = rested.going; keeps = λ w h. rested.keeps w (begun.keeps w h); empty = rested.empty };
-      holds = rested.keeps v begun.holds;
-    }
 
 -- with an empty stack, what the table has is done
 holds_done : (s top v : ℕ) (work : List Record) → s ≡ 0 → Holds s top work v → At (node_at work) top (length work) v

@@ -1,5 +1,5 @@
 -- The greatest measure among done nodes, taken over more and more of them.
-use Rattle.std.proofs.Common.{◌≡◌, ℕ, ◌+◌, ◌<◌, ◌≤◌, max, true, ◌⊎◌, List, length, Some, None, Option, sym, refl, ◌∙◌, subst, inl, inr, ⊎_elim, arith}
+use Rattle.std.proofs.Common.{◌≡◌, ℕ, ◌+◌, ◌<◌, ◌≤◌, max, true, ◌⊎◌, List, length, Some, Option, sym, refl, ◌∙◌, subst, inl, inr, ⊎_elim, arith}
 use Rattle.std.proofs.lemmas.Bool.{cases_eq, cases_lt}
 use Rattle.graph.specs.Graphs.{Graph}
 use Rattle.graph.specs.Walks.{Edge}
@@ -10,17 +10,6 @@ use Rattle.search.specs.Trees.{Follows, Heavy}
 use Rattle.search.specs.Weights.{Weight, Apart, Below, ByLetters}
 
 module _ (top n : ℕ) (node measure : ℕ → ℕ) where
-  pub heavy_none : (P : ℕ → Type 0) → ((w : ℕ) → P w → ⊥) → Heavy P top n node measure 0
-  heavy_none P none = record { most = λ w j p t h e. absurd (none w p); met = inl refl }
-
-  pub heavy_as : (P Q : ℕ → Type 0) (b : ℕ) → ((w : ℕ) → Q w → P w) → ((w : ℕ) → P w → Q w)
-      → Heavy P top n node measure b → Heavy Q top n node measure b
-  heavy_as P Q b was is h =
-      record {
-        most = λ w j q. h.most w j (was w q);
-        met = ⊎_elim inl (λ (w, j, p, t, k, e, m). inr (w, j, is w p, t, k, e, m)) h.met;
-      }
-
   pub heavy_max : (P Q R : ℕ → Type 0) (b c : ℕ)
       → ((w : ℕ) → R w → P w ⊎ Q w) → ((w : ℕ) → P w → R w) → ((w : ℕ) → Q w → R w)
       → Heavy P top n node measure b → Heavy Q top n node measure c → Heavy R top n node measure (max b c)
@@ -59,9 +48,6 @@ weight_heavy top node r work apart =
     })
 
 module _ (g : Graph) (v l top : ℕ) (work : List Record) where
-  pub heavy_first : Heavy (Below g v l (Some 0)) top (length work) (node_at work) (measure_at work) 0
-  heavy_first = heavy_none top (length work) (node_at work) (measure_at work) (Below g v l (Some 0)) (λ w (e, lt). omega arith)
-
   heavy_next : (from after : Option ℕ) (next b r : ℕ) → Next (g.edge v l) from (Some next) after
       → Heavy (Below g v l from) top (length work) (node_at work) (measure_at work) b
       → Heavy (λ w. w ≡ next) top (length work) (node_at work) (measure_at work) r
@@ -79,14 +65,6 @@ module _ (g : Graph) (v l top : ℕ) (work : List Record) where
       subst (λ y. Heavy (Below g v l after) top (length work) (node_at work) (measure_at work) y) (sym is)
       (heavy_next from after next b r gives heavy (weight_heavy top next r work apart weight))
 
-  -- behind the last node that v leads to by the letter, all are weighed
-  pub heavy_all : (from after : Option ℕ) (b : ℕ) → Next (g.edge v l) from None after
-      → Heavy (Below g v l from) top (length work) (node_at work) (measure_at work) b
-      → Heavy (λ w. g.edge v l w ≡ true) top (length work) (node_at work) (measure_at work) b
-  heavy_all from after b passed =
-      heavy_as top (length work) (node_at work) (measure_at work) (Below g v l from) (λ w. g.edge v l w ≡ true) b
-      (λ w e. (e, passed w e)) (λ w (e, lt). e)
-
   pub heavy_letter : (b c x : ℕ) → Heavy (ByLetters g v l) top (length work) (node_at work) (measure_at work) b
       → Heavy (λ w. g.edge v l w ≡ true) top (length work) (node_at work) (measure_at work) c → x ≡ max b c
       → Heavy (ByLetters g v (l + 1)) top (length work) (node_at work) (measure_at work) x
@@ -97,12 +75,6 @@ module _ (g : Graph) (v l top : ℕ) (work : List Record) where
       ⊎_elim (λ (same : k ≡ l). inr (subst (λ x. g.edge v x w ≡ true) same e)) (λ ne. inl (k, omega arith, e)) (cases_eq k l))
       (λ w (k, lt, e). (k, omega arith, e))
       (λ w e. (l, omega arith, e)) hb hc)
-
-  pub heavy_node : (b : ℕ) → l ≡ g.letters → Heavy (ByLetters g v l) top (length work) (node_at work) (measure_at work) b
-      → Heavy (Edge g v) top (length work) (node_at work) (measure_at work) b
-  heavy_node b all =
-      heavy_as top (length work) (node_at work) (measure_at work) (ByLetters g v l) (Edge g v) b
-      (λ w (k, lt, e). (k, omega arith, e)) (λ w (k, lt, e). (k, omega arith, e))
 
 pub heavy_place : (g : Graph) (a i top : ℕ) (work : List Record) (b c x : ℕ) → a ≤ i
     → Heavy (Follows g (node_at work) a i) top (length work) (node_at work) (measure_at work) b

@@ -25,6 +25,13 @@ pub record Explored (g : Graph) (s top cur : ℕ) (found : Option ℕ) (work : L
   pub done : Done g top (length work) (node_at work) (measure_at work) found
   pub explored : g.letters ≤ letter_at work cur
 
+-- the same two, of a spot
+abbrev pub IsSearching : Graph → Spot → List Record → Type 0
+IsSearching g p work = Searching g p.size p.top p.cur p.from work
+
+abbrev pub IsExplored : Graph → Spot → List Record → Type 0
+IsExplored g p work = Explored g p.size p.top p.cur p.found work
+
 -- a search between two of its steps; the stack may be empty
 pub record Going (g : Graph) (p : Spot) (work : List Record) : Type 0 where
   pub held : Held g p.size p.top (length work) (node_at work)

@@ -41,6 +41,9 @@ pub record Rooted (g : Graph) (s top cur : ℕ) (found : Option ℕ) (work : Lis
   pub here : Explored g s top cur found work
   pub root : low_at work cur ≡ cur
 
+abbrev pub IsRooted : Graph → Spot → List Record → Type 0
+IsRooted g p work = Rooted g p.size p.top p.cur p.found work
+
 -- a node is named only if it lies on a marked cycle; if none is, none was before, and the measure is that of each place
 abbrev pub ComponentTold : Graph → ℕ → ℕ → List Record → Option ℕ → ℕ → Option ℕ → Type 0
 ComponentTold g cur s work before m None =

@@ -1,11 +1,11 @@
 // The steps of a search: a new node is entered, an explored place is left for its parent, a component is retired.
-ghost use Rattle.std.specs.Prelude.{◌≡◌, ◌<◌, ◌≤◌, length, MatchResult};
+ghost use Rattle.std.specs.Prelude.{◌<◌, length, MatchResult};
 ghost use Rattle.graph.specs.Graphs.{Graph, Bounded};
 ghost use Rattle.search.specs.Changes.{SameTable};
 ghost use Rattle.search.specs.Graphs.{graph_of};
-ghost use Rattle.search.specs.Searches.{Explored, Going, Stepped, Rested, Entered, Crowded, TooMany, GoesOn};
-ghost use Rattle.search.specs.Tables.{node_at, letter_at, low_at, up_at};
-ghost use Rattle.search.specs.Weights.{Rooted, Retired, IsRetiredSpot};
+ghost use Rattle.search.specs.Searches.{IsExplored, Going, Stepped, Rested, Entered, Crowded, TooMany, GoesOn};
+ghost use Rattle.search.specs.Tables.{letter_at, low_at, up_at};
+ghost use Rattle.search.specs.Weights.{IsRooted, Retired, IsRetiredSpot};
 
 use crate::graphs::ImplicitGraph;
 use crate::records::Record;
@@ -16,7 +16,7 @@ use graph::Map;
 impl<'w> Search<'w> {
     // Pushes a new node, if there is room.
     pub(crate) fn enter(&mut self, next: u64) -> Result<(), SearchFault>
-        requires { (self.old.spot.size ≤ self.old.spot.top) × ((self.old.spot.top ≤ length self.old.work.now) × (self.old.spot.cur < 65536)) }
+        requires { self.old.spot.cur < 65536 }
         ensures same_table { SameTable self.old.work self.new.work }
         ensures entered { MatchResult result (λ _. Entered self.old.spot next self.old.work.now self.new.work.now self.new.spot) (Crowded self.old.spot) }
     {
@@ -36,7 +36,7 @@ impl<'w> Search<'w> {
 
     // Goes on at a place, behind a node.
     fn go_on(&mut self, place: usize, node: u64)
-        requires { (place < length self.old.work.now) × (letter_at self.old.work.now place < 255) }
+        requires { (place < self.old.spot.size) × (letter_at self.old.work.now place < 255) }
         ensures same_table { SameTable self.old.work self.new.work }
         ensures goes_on { GoesOn place node self.old.spot self.old.work.now self.new.work.now self.new.spot }
     {
@@ -47,10 +47,10 @@ impl<'w> Search<'w> {
     // Leaves the current place for its parent, which gets its low link and goes on behind its node.
     fn leave(&mut self)
         requires inside { self.old.spot.cur < length self.old.work.now }
-        requires parent { up_at self.old.work.now self.old.spot.cur < length self.old.work.now }
+        requires parent { up_at self.old.work.now self.old.spot.cur < self.old.spot.size }
         requires letter { letter_at self.old.work.now (up_at self.old.work.now self.old.spot.cur) < 255 }
         ensures same_table { SameTable self.old.work self.new.work }
-        ensures stepped { (g : Graph) → Bounded g → Explored g self.old.spot.size self.old.spot.top self.old.spot.cur self.old.spot.found self.old.work.now → low_at self.old.work.now self.old.spot.cur < self.old.spot.cur → Stepped g self.old.spot self.old.work.now self.new.work.now self.new.spot }
+        ensures stepped { (g : Graph) → Bounded g → IsExplored g self.old.spot self.old.work.now → low_at self.old.work.now self.old.spot.cur < self.old.spot.cur → Stepped g self.old.spot self.old.work.now self.new.work.now self.new.spot }
     {
         let explored = self.work[self.spot.cur];
         let up = explored.parent();
@@ -60,7 +60,7 @@ impl<'w> Search<'w> {
 
     // Assesses the component of the current place, and moves it to what is done.
     fn retire<M: Map>(&mut self, graph: &ImplicitGraph<'_, M>)
-        requires { Rooted (graph_of M.Map.graph graph.now) self.old.spot.size self.old.spot.top self.old.spot.cur self.old.spot.found self.old.work.now }
+        requires { IsRooted (graph_of M.Map.graph graph.now) self.old.spot self.old.work.now }
         ensures same_table { SameTable self.old.work self.new.work }
         ensures spot { IsRetiredSpot self.old.spot self.new.spot }
         ensures retired { Retired (graph_of M.Map.graph graph.now) self.old.spot.size self.old.spot.top self.old.spot.cur self.old.work.now self.new.work.now self.new.spot.found }
@@ -75,7 +75,7 @@ impl<'w> Search<'w> {
 
     // Retires the component of the current place; the parent goes on, if there is one.
     fn close<M: Map>(&mut self, graph: &ImplicitGraph<'_, M>)
-        requires { Rooted (graph_of M.Map.graph graph.now) self.old.spot.size self.old.spot.top self.old.spot.cur self.old.spot.found self.old.work.now }
+        requires { IsRooted (graph_of M.Map.graph graph.now) self.old.spot self.old.work.now }
         ensures same_table { SameTable self.old.work self.new.work }
         ensures stepped { Stepped (graph_of M.Map.graph graph.now) self.old.spot self.old.work.now self.new.work.now self.new.spot }
     {
@@ -88,7 +88,7 @@ impl<'w> Search<'w> {
 
     // Goes on from an explored place.
     fn finish<M: Map>(&mut self, graph: &ImplicitGraph<'_, M>)
-        requires { Explored (graph_of M.Map.graph graph.now) self.old.spot.size self.old.spot.top self.old.spot.cur self.old.spot.found self.old.work.now }
+        requires { IsExplored (graph_of M.Map.graph graph.now) self.old.spot self.old.work.now }
         ensures same_table { SameTable self.old.work self.new.work }
         ensures stepped { Stepped (graph_of M.Map.graph graph.now) self.old.spot self.old.work.now self.new.work.now self.new.spot }
     {

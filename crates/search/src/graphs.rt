@@ -75,7 +75,8 @@ impl<'a, M: Map> ImplicitGraph<'a, M> {
     }
 }
 
-// Which nodes are asked for: the starts, or those that edges with a letter lead to from a node.
+// Which nodes are asked for: the starts, or those that edges with a letter lead to from a node. It is not an Option, whose
+// None would say nothing of starts, and not a closure, since what the iterator gives is so a fact of the graph alone.
 #[derive(Clone, Copy)]
 pub(crate) enum Nodes {
     Starts,

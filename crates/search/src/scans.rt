@@ -1,9 +1,9 @@
 // Looking at the edges of the current place until one leads to a new node.
-ghost use Rattle.std.specs.Prelude.{◌≡◌, ◌+◌, ◌<◌, ◌≤◌, length};
+ghost use Rattle.std.specs.Prelude.{◌≡◌, ◌<◌, length};
 ghost use Rattle.search.specs.Changes.{SameTable};
 ghost use Rattle.search.specs.Graphs.{graph_of};
 ghost use Rattle.search.specs.Tables.{letter_at};
-ghost use Rattle.search.specs.Searches.{Searching, Looked, Scanned, Resumed, IsFurther};
+ghost use Rattle.search.specs.Searches.{IsSearching, Looked, Scanned, Resumed, IsFurther};
 
 use crate::graphs::ImplicitGraph;
 use crate::spots::Search;
@@ -28,7 +28,7 @@ impl<'w> Search<'w> {
 
     // Looks at one edge more, and gives the node that it leads to if that is new; else it goes on.
     fn look<M: Map>(&mut self, graph: &ImplicitGraph<'_, M>) -> Option<u64>
-        requires going { Searching (graph_of M.Map.graph graph.now) self.old.spot.size self.old.spot.top self.old.spot.cur self.old.spot.from self.old.work.now }
+        requires going { IsSearching (graph_of M.Map.graph graph.now) self.old.spot self.old.work.now }
         requires left { letter_at self.old.work.now self.old.spot.cur < (graph_of M.Map.graph graph.now).letters }
         ensures same_table { SameTable self.old.work self.new.work }
         ensures spot { IsFurther self.old.spot self.new.spot }
@@ -50,7 +50,7 @@ impl<'w> Search<'w> {
 
     // Looks at edges until one leads to a new node, or none is left.
     pub(crate) fn scan<M: Map>(&mut self, graph: &ImplicitGraph<'_, M>) -> Option<u64>
-        requires going { Searching (graph_of M.Map.graph graph.now) self.old.spot.size self.old.spot.top self.old.spot.cur self.old.spot.from self.old.work.now }
+        requires going { IsSearching (graph_of M.Map.graph graph.now) self.old.spot self.old.work.now }
         ensures same_table { SameTable self.old.work self.new.work }
         ensures spot { IsFurther self.old.spot self.new.spot }
         ensures scanned { Scanned (graph_of M.Map.graph graph.now) self.old.spot.size self.old.spot.top self.old.spot.cur self.old.work.now self.new.work.now result }

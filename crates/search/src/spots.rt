@@ -1,8 +1,9 @@
-// A search on its way: the table that it works in, and how far it has come.
+// A search on its way.
 ghost use Rattle.std.specs.Prelude.{◌≡◌, ◌≤◌, length, None};
 
 use crate::records::Record;
 
+// How far a search has come.
 #[derive(Clone, Copy)]
 pub(crate) struct Spot {
     // the records below are the stack
@@ -17,11 +18,17 @@ pub(crate) struct Spot {
     pub(crate) found: Option<u64>,
 }
 
+// Its methods keep the reference to the table, which their contracts say, as a type cannot speak of two moments. The graph
+// is handed to them: in here it would be one thing more for each to say that it keeps.
 #[derive(Drop)]
 pub(crate) struct Search<'w> {
+    // the stack and what is done, in one table that the caller lends: a search has no memory of its own
     pub(crate) work: &'w mut [Record],
     pub(crate) spot: Spot,
     ghost few: { length work.now ≤ 65536 },
+    ghost within: { spot.cur ≤ spot.size },
+    ghost stack: { spot.size ≤ spot.top },
+    ghost table: { spot.top ≤ length work.now },
 }
 
 impl<'w> Search<'w> {

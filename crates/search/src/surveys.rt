@@ -15,7 +15,7 @@ use lasso::Word;
 // What a search found.
 #[derive(Clone, Copy, PartialEq, Eq, Debug)]
 pub struct Findings {
-    // how many nodes can be reached; they stand in the first records
+    // how many nodes can be reached; they stand in the first records of the table, which stays the caller's
     pub count: usize,
     // a reachable marked node on a cycle, if there is one; else the records have their measures
     pub witness: Option<u64>,
@@ -25,7 +25,7 @@ pub struct Findings {
 pub fn check_table(work: &[Record]) -> Result<(), SearchFault>
     ensures { MatchResult result (λ _. Allowed (length work.now)) (TableRefused (length work.now)) }
 {
-    if work.len() < 1 || work.len() > 65536 {
+    if work.is_empty() || work.len() > 65536 {
         return Err(SearchFault::Table);
     }
     Ok(())

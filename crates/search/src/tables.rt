@@ -1,5 +1,5 @@
 // Reading and changing the table of a search. The stack is below `size`, what is done is from `top` on.
-ghost use Rattle.std.specs.Prelude.{◌≡◌, ℕ, ◌+◌, ◌-◌, ◌*◌, ◌<◌, ◌≤◌, min, length, set, Decides, MatchOption, ◌≢◌};
+ghost use Rattle.std.specs.Prelude.{◌≡◌, ◌+◌, ◌-◌, ◌<◌, min, length, Decides, MatchOption};
 ghost use Rattle.search.specs.Tables.{node_at, letter_at, low_at};
 ghost use Rattle.search.specs.Trees.{At};
 ghost use Rattle.search.specs.Changes.{SameTable, Changed, Met, Risen, Settled};
@@ -7,32 +7,24 @@ ghost use Rattle.search.specs.Changes.{SameTable, Changed, Met, Risen, Settled};
 use crate::records::Record;
 use crate::spots::{Search, Spot};
 
-// The place of a node among records, from the first on.
+// The place of a node among records. A search has no memory for a map from nodes to places: this goes through the records,
+// and is the only function that does so to find a node.
 pub(crate) fn find(records: &[Record], node: u64) -> Option<usize>
     ensures { MatchOption result (At (node_at records.now) 0 (length records.now) node → ⊥) (λ i. (i < length records.now) × (node_at records.now i ≡ node)) }
 {
     records.iter().position(|record| record.node == node)
 }
 
-// The same, from the last on.
-fn find_last(records: &[Record], node: u64) -> Option<usize>
-    ensures { MatchOption result (At (node_at records.now) 0 (length records.now) node → ⊥) (λ i. (i < length records.now) × (node_at records.now i ≡ node)) }
-{
-    records.iter().rposition(|record| record.node == node)
-}
-
 impl<'w> Search<'w> {
     // The place of a node on the stack.
     fn place(&self, node: u64) -> Option<usize>
-        requires { self.now.spot.size ≤ length self.now.work.now }
         ensures { MatchOption result (At (node_at self.now.work.now) 0 self.now.spot.size node → ⊥) (λ i. (i < self.now.spot.size) × (node_at self.now.work.now i ≡ node)) }
     {
-        find_last(&self.work[..self.spot.size], node)
+        find(&self.work[..self.spot.size], node)
     }
 
     // Is a node done?
     pub(crate) fn is_done(&self, node: u64) -> bool
-        requires { self.now.spot.top ≤ length self.now.work.now }
         ensures { Decides result (At (node_at self.now.work.now) self.now.spot.top (length self.now.work.now) node) }
     {
         find(&self.work[self.spot.top..], node).is_some()
@@ -62,7 +54,7 @@ impl<'w> Search<'w> {
     // The current place leads to a node: if the stack has it, the place's low link is not above it then. Tells whether the
     // table has it.
     pub(crate) fn meet(&mut self, node: u64) -> bool
-        requires { (self.old.spot.size ≤ self.old.spot.top) × ((self.old.spot.top ≤ length self.old.work.now) × (self.old.spot.cur < self.old.spot.size)) }
+        requires { self.old.spot.cur < self.old.spot.size }
         ensures same_table { SameTable self.old.work self.new.work }
         ensures spot { self.new.spot ≡ self.old.spot }
         ensures met { Met self.old.spot.size self.old.spot.top self.old.spot.cur node self.old.work.now self.new.work.now result }
@@ -76,7 +68,6 @@ impl<'w> Search<'w> {
 
     // Moves the places from `cur` on and below `size` up, so that they end at `top`, and gives each the measure.
     pub(crate) fn move_up(&mut self, measure: u32)
-        requires { (self.old.spot.cur ≤ self.old.spot.size) × ((self.old.spot.size ≤ self.old.spot.top) × (self.old.spot.top ≤ length self.old.work.now)) }
         ensures same_table { SameTable self.old.work self.new.work }
         ensures spot { self.new.spot ≡ self.old.spot }
         ensures risen { Risen self.old.spot.size self.old.spot.top self.old.spot.cur measure self.old.work.now self.new.work.now }
@@ -92,7 +83,6 @@ impl<'w> Search<'w> {
 
     // Copies what is done to the front, and counts it.
     pub(crate) fn settle(&mut self) -> usize
-        requires { self.old.spot.top ≤ length self.old.work.now }
         ensures same_table { SameTable self.old.work self.new.work }
         ensures spot { self.new.spot ≡ self.old.spot }
         ensures count { result ≡ length self.old.work.now - self.old.spot.top }

@@ -1,10 +1,10 @@
 // What a finished component is worth: a marked node on a cycle, or the measure of its nodes.
-ghost use Rattle.std.specs.Prelude.{◌≡◌, ℕ, ◌+◌, ◌-◌, ◌<◌, ◌≤◌, true, ◌⊎◌, length, Some, None, Decides, MatchOption, MatchResult};
+ghost use Rattle.std.specs.Prelude.{◌≡◌, ◌+◌, ◌-◌, ◌<◌, true, ◌⊎◌, length, Some, None, Decides, MatchOption};
 ghost use Rattle.graph.specs.Walks.{Edge};
 ghost use Rattle.search.specs.Graphs.{graph_of};
 ghost use Rattle.search.specs.Tables.{node_at, measure_at};
 ghost use Rattle.search.specs.Trees.{Follows, Heavy};
-ghost use Rattle.search.specs.Weights.{Weight, Apart, Unmarked, MarkedIn, Rooted, Assessment};
+ghost use Rattle.search.specs.Weights.{Weight, Apart, Unmarked, MarkedIn, Rooted, IsRooted, Assessment};
 
 use crate::graphs::ImplicitGraph;
 use crate::spots::{Search, Spot};
@@ -30,7 +30,6 @@ impl<'a, M: Map> ImplicitGraph<'a, M> {
 impl<'w> Search<'w> {
     // The measure of a done node, or 0 for a node that is not done.
     fn measure_of(&self, node: u64) -> u32
-        requires { self.now.spot.top ≤ length self.now.work.now }
         ensures { Weight self.now.spot.top node self.now.work.now result }
     {
         let done = &self.work[self.spot.top..];
@@ -40,10 +39,10 @@ impl<'w> Search<'w> {
         }
     }
 
-    // The greatest measure of a done node that a node leads to by a letter.
+    // The greatest measure of a done node that a node leads to by a letter. That done places hold different nodes is asked of
+    // the three that weigh and is not said by the type, which each move of a record would have to show.
     fn weigh_letter<M: Map>(&self, graph: &ImplicitGraph<'_, M>, node: u64, letter: u8) -> u32
-        requires top { self.now.spot.top ≤ length self.now.work.now }
-        requires apart { Apart self.now.spot.top self.now.work.now }
+        requires { Apart self.now.spot.top self.now.work.now }
         ensures { Heavy (λ w. (graph_of M.Map.graph graph.now).edge node letter w ≡ true) self.now.spot.top (length self.now.work.now) (node_at self.now.work.now) (measure_at self.now.work.now) result }
     {
         let mut best: u32 = 0;
@@ -53,10 +52,10 @@ impl<'w> Search<'w> {
         best
     }
 
-    // The greatest measure of a done node that a node leads to.
+    // The greatest measure of a done node that a node leads to. The three that weigh are loops and no `map` with `max`: what
+    // holds so far, `Heavy` of the nodes passed, is then one invariant for each, and a chain would have none to say it.
     fn weigh_node<M: Map>(&self, graph: &ImplicitGraph<'_, M>, node: u64) -> u32
-        requires top { self.now.spot.top ≤ length self.now.work.now }
-        requires apart { Apart self.now.spot.top self.now.work.now }
+        requires { Apart self.now.spot.top self.now.work.now }
         ensures { Heavy (Edge (graph_of M.Map.graph graph.now) node) self.now.spot.top (length self.now.work.now) (node_at self.now.work.now) (measure_at self.now.work.now) result }
     {
         let mut best: u32 = 0;
@@ -68,10 +67,7 @@ impl<'w> Search<'w> {
 
     // The greatest measure of a done node that a place from `cur` on and below `size` leads to.
     fn weigh<M: Map>(&self, graph: &ImplicitGraph<'_, M>) -> u32
-        requires some { self.now.spot.cur ≤ self.now.spot.size }
-        requires size { self.now.spot.size ≤ length self.now.work.now }
-        requires top { self.now.spot.top ≤ length self.now.work.now }
-        requires apart { Apart self.now.spot.top self.now.work.now }
+        requires { Apart self.now.spot.top self.now.work.now }
         ensures { Heavy (Follows (graph_of M.Map.graph graph.now) (node_at self.now.work.now) self.now.spot.cur self.now.spot.size) self.now.spot.top (length self.now.work.now) (node_at self.now.work.now) (measure_at self.now.work.now) result }
     {
         let mut best: u32 = 0;
@@ -83,8 +79,6 @@ impl<'w> Search<'w> {
 
     // A marked node of the component.
     fn first_marked<M: Map>(&self, graph: &ImplicitGraph<'_, M>) -> Option<u64>
-        requires some { self.now.spot.cur ≤ self.now.spot.size }
-        requires size { self.now.spot.size ≤ length self.now.work.now }
         ensures { MatchOption result (Unmarked (graph_of M.Map.graph graph.now) self.now.spot.cur self.now.spot.size self.now.work.now) (MarkedIn (graph_of M.Map.graph graph.now) self.now.spot.cur self.now.spot.size self.now.work.now) }
     {
         let Spot { size, cur, .. } = self.spot;
@@ -97,13 +91,12 @@ impl<'w> Search<'w> {
     // Are there several nodes in the component of a node, or does it lead to itself? Then a cycle passes it, since a
     // component is strongly connected.
     fn is_cyclic<M: Map>(&self, graph: &ImplicitGraph<'_, M>, node: u64) -> bool
-        requires { self.now.spot.cur ≤ self.now.spot.size }
         ensures { Decides result ((self.now.spot.cur + 1 < self.now.spot.size) ⊎ Edge (graph_of M.Map.graph graph.now) node node) }
     {
         self.spot.size - self.spot.cur > 1 || graph.has_self(node)
     }
 
-    // Assesses a component where no marked cycle is found yet.
+    // Assesses a component where no marked cycle is found yet. A marked node on a cycle is the error: no measure is owed then.
     fn assess_new<M: Map>(&self, graph: &ImplicitGraph<'_, M>) -> Result<u32, u64>
         requires { Rooted (graph_of M.Map.graph graph.now) self.now.spot.size self.now.spot.top self.now.spot.cur None self.now.work.now }
         ensures { Assessment (graph_of M.Map.graph graph.now) self.now.spot.size self.now.spot.top self.now.spot.cur None self.now.work.now result }
@@ -120,7 +113,7 @@ impl<'w> Search<'w> {
     // Assesses the component that the current place is the root of: the measure of each of its nodes, or else a marked
     // node on a cycle, once one is found.
     pub(crate) fn assess<M: Map>(&self, graph: &ImplicitGraph<'_, M>) -> Result<u32, u64>
-        requires { Rooted (graph_of M.Map.graph graph.now) self.now.spot.size self.now.spot.top self.now.spot.cur self.now.spot.found self.now.work.now }
+        requires { IsRooted (graph_of M.Map.graph graph.now) self.now.spot self.now.work.now }
         ensures { Assessment (graph_of M.Map.graph graph.now) self.now.spot.size self.now.spot.top self.now.spot.cur self.now.spot.found self.now.work.now result }
     {
         match self.spot.found {

@@ -34,16 +34,11 @@ impl Map for Ends {
     }
 
     fn least_start(&self, word: Word<'_>, from: u64) -> Option<u64> {
-        if from == 0 { Some(0) } else { Some(u64::MAX) }
+        Some(if from == 0 { 0 } else { u64::MAX })
     }
 
     fn least_next(&self, word: Word<'_>, v: u64, letter: u8, from: u64) -> Option<u64> {
-        if letter >= 2 {
-            return None;
-        }
-        if v == 0 || (self.loops && v == u64::MAX) {
-            return Some(u64::MAX);
-        }
-        None
+        let leads = v == 0 || (self.loops && v == u64::MAX);
+        (letter < 2 && leads).then_some(u64::MAX)
     }
 }

@@ -1,8 +1,9 @@
 // Tables of every length: 7 for one with no record or too many, 13 for one with too few for the nodes.
-use crate::samples::{USED, WORD};
+use crate::samples::USED;
 use crate::{Ends, Sheet};
 use fault::{Fault, SearchFault};
 use graph::Map;
+use lasso::NO_WORD;
 use search::{Record, check_table, survey};
 use std::alloc::{AllocError, Global};
 use std::test::Fail;
@@ -18,7 +19,7 @@ fn count<M: Map>(
     records: usize,
 ) -> Result<Result<usize, SearchFault>, AllocError> {
     let mut work = vec![in heap; USED; records]?;
-    Ok(survey(map, WORD, work.as_mut_slice()).map(|found| found.count))
+    Ok(survey(map, NO_WORD, work.as_mut_slice()).map(|found| found.count))
 }
 
 // 0 is the start, and leads nowhere.
@@ -90,7 +91,7 @@ fn unchanged(rt: HostRuntime) -> Result<(), Fail> {
             measure: 8,
         })?;
     }
-    assert!(rt; survey(&ONE, WORD, work.as_mut_slice()).is_err());
+    assert!(rt; survey(&ONE, NO_WORD, work.as_mut_slice()).is_err());
     for (node, record) in (0..65_537u64).zip(work.as_slice()) {
         assert_eq!(rt; (record.node, record.letter, record.measure), (node, 3, 8));
     }

@@ -3,7 +3,7 @@ ghost use Rattle.std.specs.Prelude.{◌<◌};
 
 use crate::Sheet;
 use graph::Map;
-use lasso::Word;
+use lasso::NO_WORD;
 use search::{Record, survey};
 use std::array;
 use std::process::Abort;
@@ -14,12 +14,6 @@ pub(crate) const USED: Record = Record {
     node: 5,
     letter: 9,
     measure: 77,
-};
-
-// The maps are the same for every word.
-pub(crate) const WORD: Word<'static> = Word {
-    elements: &[],
-    stem: 0,
 };
 
 // A map with one letter: set v of these is what node v leads to.
@@ -56,7 +50,8 @@ pub(crate) fn count_up() -> [u64; 64] {
     array::from_fn(|v| v as u64)
 }
 
-// The measure of a node among the first records.
+// The measure of a node among the first records. Their count is handed in beside the table, as an answer that a test is of and
+// that may be wrong.
 fn measure_of(work: &[Record], count: usize, node: u64) -> Option<u32> {
     work.iter()
         .take(count)
@@ -67,7 +62,7 @@ fn measure_of(work: &[Record], count: usize, node: u64) -> Option<u32> {
 // No marked node lies on a cycle, and these are the nodes with their measures.
 pub(crate) fn measured<M: Map>(rt: &impl Abort, map: &M, nodes: &[(u64, u32)]) -> Result<(), Fail> {
     let mut work = [USED; 80];
-    let found = survey(map, WORD, &mut work)?;
+    let found = survey(map, NO_WORD, &mut work)?;
     assert_eq!(rt; found.witness, None);
     assert_eq!(rt; found.count, nodes.len());
     for (node, measure) in nodes {
@@ -89,7 +84,7 @@ pub(crate) fn witnessed<M: Map>(
     witnesses: &[u64],
 ) -> Result<(), Fail> {
     let mut work = [USED; 80];
-    let found = survey(map, WORD, &mut work)?;
+    let found = survey(map, NO_WORD, &mut work)?;
     assert_eq!(rt; found.count, nodes.len());
     for node in nodes {
         assert!(rt;

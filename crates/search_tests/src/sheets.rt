@@ -1,6 +1,6 @@
 // A map that is told as sets of its 64 nodes. It is the same for every word.
-ghost use Rattle.std.specs.Prelude.{◌≡◌};
-ghost use Rattle.search_tests.specs.Sheets.{sheet, sheet_bounded};
+ghost use Rattle.std.specs.Prelude.{◌≡◌, ◌&&◌, nat_lt};
+ghost use Rattle.search_tests.specs.Sheets.{bit, sheet, sheet_bounded};
 
 use graph::Map;
 use lasso::Word;
@@ -20,12 +20,11 @@ impl<'a> Sheet<'a> {
     fn has_edge(&self, v: u64, letter: u8, w: u64) -> bool
         ensures { result ≡ (sheet self.now.letters self.now.starts self.now.marks self.now.rows.now).edge v letter w }
     {
-        if v >= 64 || letter >= self.letters || w >= 64 {
+        if v >= 64 || letter >= self.letters {
             return false;
         }
         let at = v as usize * self.letters as usize + letter as usize;
-        let set = self.rows.get(at).copied().unwrap_or(0);
-        (set >> w) % 2 == 1
+        has(self.rows.get(at).copied().unwrap_or(0), w)
     }
 }
 
@@ -43,11 +42,11 @@ impl<'a> Map for Sheet<'a> {
     }
 
     fn is_start(&self, word: Word<'_>, v: u64) -> bool {
-        v < 64 && (self.starts >> v) % 2 == 1
+        has(self.starts, v)
     }
 
     fn is_marked(&self, word: Word<'_>, v: u64) -> bool {
-        v < 64 && (self.marks >> v) % 2 == 1
+        has(self.marks, v)
     }
 
     fn least_start(&self, word: Word<'_>, from: u64) -> Option<u64> {
@@ -57,4 +56,11 @@ impl<'a> Map for Sheet<'a> {
     fn least_next(&self, word: Word<'_>, v: u64, letter: u8, from: u64) -> Option<u64> {
         (from..64).find(|w| self.has_edge(v, letter, *w))
     }
+}
+
+// Is v a node, and a member of the set?
+fn has(set: u64, v: u64) -> bool
+    ensures { result ≡ nat_lt v 64 && bit set v }
+{
+    v < 64 && (set >> v) % 2 == 1
 }

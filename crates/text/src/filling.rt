@@ -7,7 +7,8 @@ use crate::bits::with;
 use crate::entries::{By, Entry, StepLine};
 use crate::loading::Loaded;
 
-// The caller's words as the rows of a chart: for each of its states a row for each of its letters.
+// The caller's words as the rows of a chart: for each of its states a row for each of its letters. They are lent, since a
+// loader takes no heap.
 #[derive(Drop)]
 pub struct Rows<'r> {
     pub chart: Loaded,

@@ -25,6 +25,7 @@ impl Trio<'_> {
         })
     }
 
+    // The same for a step, and likewise no TryFrom.
     fn step_line(self) -> Option<StepLine>
         ensures { result ≡ step_of (as_three self.entry) }
     {
@@ -60,7 +61,8 @@ fn read_step(span: Span<'_>) -> Option<Entry>
     span.three_words()?.step_line().map(Entry::Step)
 }
 
-// What the line says, or none where it has not the form that the stage asks for.
+// What the line says, or none where it has not the form that the stage asks for. A match and no closure in a table: the
+// stages are the form's, and there will be no other.
 pub(crate) fn read_entry(stage: Stage, line: Span<'_>) -> Option<Entry>
     ensures { result ≡ read_entry stage line.entry.text.now }
 {

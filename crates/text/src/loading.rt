@@ -1,5 +1,5 @@
 // Loading a chart: the text is read whole before the first row changes.
-ghost use Rattle.std.specs.Prelude.{◌≡◌, ℕ, ◌*◌, MatchResult};
+ghost use Rattle.std.specs.Prelude.{◌≡◌, ◌*◌, MatchResult};
 ghost use Rattle.text.specs.Documents.{Document, some_tells};
 ghost use Rattle.text.specs.Loads.{Loads};
 ghost use Rattle.text.specs.Reading.{Surveyed, Told, verdict, fine};
@@ -9,7 +9,7 @@ use crate::cursors::Cursor;
 use crate::filling::Rows;
 use fault::{ChartFault, TextFault};
 
-// A chart's numbers; its rows are in the caller's slice.
+// A chart's numbers. Its rows are in the caller's slice and are no part of it, so that the caller may go on with them.
 #[derive(Clone, Copy, PartialEq, Eq, Debug)]
 pub struct Loaded {
     pub states: u8,

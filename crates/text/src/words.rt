@@ -104,7 +104,7 @@ impl Token<'_> {
         }
     }
 
-    // The column `mark`. Not one function with `start`: the signs are to stand as cases in each column's decision.
+    // The column `mark`. Apart from `start` by a rule (docs/DECISIONS.md): a column's signs stand in its decision as cases.
     pub(crate) fn mark(self) -> Option<bool>
         ensures { result ≡ flag 42 (as_word self.entry) }
     {
@@ -129,9 +129,6 @@ impl Token<'_> {
     pub(crate) fn is_named(self, name: &[u8]) -> bool
         ensures { result ≡ named name.now (as_word self.entry) }
     {
-        match self {
-            Token::Name(span) => span.text == name,
-            _ => false,
-        }
+        matches!(self, Token::Name(span) if span.text == name)
     }
 }

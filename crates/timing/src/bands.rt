@@ -38,11 +38,7 @@ impl Map for Band {
     }
 
     fn least_start(&self, word: Word<'_>, from: u64) -> Option<u64> {
-        if from == 0 && self.nodes > 0 {
-            Some(0)
-        } else {
-            None
-        }
+        (from == 0 && self.nodes > 0).then_some(0)
     }
 
     fn least_next(&self, word: Word<'_>, v: u64, letter: u8, from: u64) -> Option<u64> {
@@ -63,6 +59,6 @@ impl Map for Band {
             return Some(next);
         }
         let far = next.max(n.saturating_sub(self.tail as u64));
-        if far < n { Some(far) } else { None }
+        (far < n).then_some(far)
     }
 }

@@ -6,28 +6,23 @@ mod bands;
 
 use anyhow::anyhow;
 use bands::Band;
-use lasso::Word;
+use lasso::NO_WORD;
 use search::{Record, survey};
 use std::time::Instant;
 use std::{env, io};
 
+// What the table holds before a search, which may be anything: so it is no constant of the search.
 const BLANK: Record = Record {
     node: 0,
     letter: 0,
     measure: 0,
 };
 
-// The maps are the same for every word.
-const WORD: Word<'static> = Word {
-    elements: &[],
-    stem: 0,
-};
-
 // One search, in a table of 65,536 records.
 fn time(rt: &HostRuntime, name: &str, map: Band) -> anyhow::Result<()> {
     let mut work = vec![in rt.alloc(); BLANK; 65_536]?;
     let begun = Instant::now(rt)?;
-    let result = survey(&map, WORD, work.as_mut_slice());
+    let result = survey(&map, NO_WORD, work.as_mut_slice());
     let spent = begun.elapsed(rt)?.as_micros();
     let found = result.map_err(|_| anyhow!("the search is refused"))?;
     let count = found.count;

@@ -32,3 +32,8 @@ returns g c =
             (λ e. both_ways _ c.if-is_cyclic.false (c.is_cyclic.ensures.1 e)),
       );
     }
+
+pub overflow_add-result : goal.overflow_add-result
+overflow_add-result g c =
+    let m = graph_of g.M.Map.graph c.args.graph.now in
+    omega (arith, weight_fits m _ _ _ _ c.requires _ c.weigh-2.ensures, c.args.self.now.few)

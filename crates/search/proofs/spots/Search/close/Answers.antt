@@ -1,7 +1,20 @@
-use Rattle.std.proofs.Common.{◌≡◌, ap, arith}
+use Rattle.std.proofs.Common.{◌≡◌, ◌<◌, sym, ap, subst, arith}
 use Rattle.search.specs.Graphs.{graph_of}
+use Rattle.search.specs.Tables.{letter_at}
 use Rattle.search.proofs.Retiring.{step_emptied, step_retired}
 use Rattle.search.proofs.spots.Search.close.Goals as goal
+
+pub go_on-requires : goal.go_on-requires
+go_on-requires g c =
+    let q = c.requires.here.going in
+    let word = c.args.graph.now.word in
+    let b = g.M.Map.bounds c.args.graph.now.map.now word.elements.now word.stem in
+    let mid = c.retire.new.self in
+    let stays : mid.spot.cur ≡ c.args.self.now.spot.cur = ap (λ p. p.cur) c.retire.ensures.spot in
+    let parent = c.retire.ensures.retired.parent (omega (arith, stays, c.if-self-gt0.true)) in
+    let few : letter_at mid.work.now c.parent.result < 255 =
+    subst (λ u. letter_at mid.work.now u < 255) (sym c.parent.ensures) (omega (arith, parent, b.few_letters)) in
+    (omega (arith, parent, c.parent.ensures, c.retire.ensures.same_table.len, q.tree.inside, q.held.stack, q.held.table), few)
 
 pub returns-then-self-gt0-clause-stepped : goal.returns-then-self-gt0-clause-stepped
 returns-then-self-gt0-clause-stepped g c =

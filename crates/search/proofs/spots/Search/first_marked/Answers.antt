@@ -12,7 +12,7 @@ returns g c =
     let s = c.args.self.now in
     let p = s.spot in
     let part : List Record = take (p.size - p.cur) (drop p.cur s.work.now) in
-    let inside : p.size - p.cur ≤ length (drop p.cur s.work.now) = omega (arith, length-drop p.cur s.work.now, c.requires.size) in
+    let inside : p.size - p.cur ≤ length (drop p.cur s.work.now) = omega (arith, length-drop p.cur s.work.now, s.stack, s.table) in
     marked_in_part m p.cur p.size s.work.now part (length-take-le (p.size - p.cur) (drop p.cur s.work.now) inside)
     (λ i h. ap (λ r. r.node) (get_or-part p.cur p.size i s.work.now h)) c.find.result
     (first_from_find _ _ c.find.result (λ v. m.marked v ≡ true) (λ v. m.marked v ≡ false) c.find.ensures.ran

@@ -9,4 +9,4 @@ returns c =
     let s = c.args.self.now in
     let n = length s.work.now in
     subst (λ r. Decides r (At (node_at s.work.now) s.spot.top n c.args.node)) (sym c.is_some.ensures)
-    (some_in_part s.spot.top n c.args.node s.work.now c.requires (omega arith) c.find.result c.find.ensures)
+    (some_in_part s.spot.top n c.args.node s.work.now s.table (omega arith) c.find.result c.find.ensures)

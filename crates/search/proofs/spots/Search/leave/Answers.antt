@@ -1,4 +1,5 @@
-use Rattle.std.proofs.Common.{◌<◌, sym, subst, arith}
+use Rattle.std.proofs.Common.{◌<◌, sym, ap, subst, arith}
+use Rattle.search.specs.declared.spots.Spot.{Spot}
 use Rattle.search.specs.Tables.{letter_at}
 use Rattle.search.proofs.Leaving.{step_left}
 use Rattle.search.proofs.Moves.{changed_letter}
@@ -10,7 +11,7 @@ go_on-requires c =
     let letter = changed_letter _ _ _ _ _ c.lower.ensures.changed in
     let up = c.parent-up.ensures in
     let left : letter_at work c.parent-up.result < 255 = subst (λ y. letter_at work y < 255) (sym up) c.requires.letter in
-    (omega (arith, c.lower.ensures.same_table, c.requires.parent), omega arith)
+    (omega (arith, ap (λ (p : Spot). p.size) c.lower.ensures.spot, c.requires.parent), omega arith)
 
 pub returns-clause-stepped : goal.returns-clause-stepped
 returns-clause-stepped c g b e falls =

@@ -5,4 +5,4 @@ use Rattle.search.proofs.spots.Search.measure_of.Goals as goal
 pub returns-in-None : goal.returns-in-None
 returns-in-None c =
     let s = c.args.self.now in
-    inr (none_in_part s.spot.top (length s.work.now) c.args.node s.work.now c.requires (omega arith) c.in-None.ensures, refl)
+    inr (none_in_part s.spot.top (length s.work.now) c.args.node s.work.now s.table (omega arith) c.in-None.ensures, refl)

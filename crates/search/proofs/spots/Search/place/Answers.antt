@@ -1,5 +1,8 @@
+use Rattle.std.proofs.Common.{arith}
 use Rattle.search.proofs.Parts.{found_in_front}
 use Rattle.search.proofs.spots.Search.place.Goals as goal
 
 pub returns : goal.returns
-returns c = found_in_front c.args.self.now.spot.size c.args.node c.args.self.now.work.now c.requires c.find_last.result c.find_last.ensures
+returns c =
+    let s = c.args.self.now in
+    found_in_front s.spot.size c.args.node s.work.now (omega (arith, s.stack, s.table)) c.find.result c.find.ensures

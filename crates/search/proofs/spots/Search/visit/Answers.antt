@@ -19,4 +19,4 @@ explore-requires g c =
     let m = graph_of g.M.Map.graph c.args.graph.now in
     let s = c.args.self.now in
     let new = not_done s.spot.size s.spot.top c.args.start s.work.now c.requires.empty (λ p. both_ways _ c.if-is_done.false (c.is_done.ensures.1 p)) in
-    (begin_start m s.spot c.args.start s.work.now c.enter.new.self.work.now c.enter.new.self.spot s.few c.requires.going c.requires.empty c.requires.start new c.in_ok-enter.ensures.entered).going
+    begin_start m s.spot c.args.start s.work.now c.enter.new.self.work.now c.enter.new.self.spot s.few c.requires.going c.requires.empty c.requires.start new c.in_ok-enter.ensures.entered

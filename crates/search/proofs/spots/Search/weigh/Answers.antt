@@ -14,7 +14,7 @@ loop-record-preserved g c =
     let s = c.args.self.now in
     let p = s.spot in
     let i = c.loop-record.record-index in
-    let inside : i < p.size - p.cur = omega (arith, length-take-le (p.size - p.cur) (drop p.cur s.work.now) (omega (arith, length-drop p.cur s.work.now, c.requires.size)), c.loop-record-test.true) in
+    let inside : i < p.size - p.cur = omega (arith, length-take-le (p.size - p.cur) (drop p.cur s.work.now) (omega (arith, length-drop p.cur s.work.now, s.stack, s.table)), c.loop-record-test.true) in
     let next : p.cur + i + 1 ≡ p.cur + (i + 1) = omega arith in
     subst (λ j. Heavy (Follows m (node_at s.work.now) p.cur j) p.top (length s.work.now) (node_at s.work.now) (measure_at s.work.now) c.max-best.result) next
     (heavy_place m p.cur (p.cur + i) p.top s.work.now c.loop-record.best c.weigh_node.result c.max-best.result (omega arith) c.loop-record.invariant

@@ -16,5 +16,5 @@ loop-next-preserved g c =
       rises.same_nodes ∙ nodes,
       heavy_step (graph_of g.M.Map.graph c.args.graph.now) c.args.node c.args.letter s.spot.top s.work.now
           c.loop-next.next-iterator.from c.next.new.self.from c.in-Some.next c.loop-next.best c.measure_of.result c.max-best.result
-          c.requires.apart gives heavy c.measure_of.ensures c.max-best.ensures,
+          c.requires gives heavy c.measure_of.ensures c.max-best.ensures,
     )
