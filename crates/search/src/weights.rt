@@ -52,8 +52,8 @@ impl<'w> Search<'w> {
         best
     }
 
-    // The greatest measure of a done node that a node leads to. The three that weigh are loops and no `map` with `max`: what
-    // holds so far, `Heavy` of the nodes passed, is then one invariant for each, and a chain would have none to say it.
+    // The greatest measure of a done node that a node leads to. As `map` with `max` this leaves its result open, and so it is a
+    // loop, as are the two like it: the library's lemmas on chains want a function of the item, and a weight is told by `Heavy`.
     fn weigh_node<M: Map>(&self, graph: &ImplicitGraph<'_, M>, node: u64) -> u32
         requires { Apart self.now.spot.top self.now.work.now }
         ensures { Heavy (Edge (graph_of M.Map.graph graph.now) node) self.now.spot.top (length self.now.work.now) (node_at self.now.work.now) (measure_at self.now.work.now) result }
