@@ -1,15 +1,17 @@
 -- What a search of a chart's maps tells of its words.
-use Rattle.std.proofs.Common.{◌≡◌, ℕ, Bool, not, List, length, is_some, Some, None, Option, sym, subst}
+use Rattle.std.proofs.Common.{◌≡◌, ℕ, ◌≤◌, Bool, not, List, length, is_some, Some, None, Option, sym, subst, arith}
 use Rattle.chart.specs.Automata.{Automaton, Limits}
+use Rattle.fault.specs.declared.SearchFault.{SearchFault}
+use Rattle.fault.specs.declared.SearchFault.TheVariants.{Table, Full}
 use Rattle.graph.specs.Walks.{More}
 use Rattle.lasso.specs.Words.{IsWord}
 use Rattle.lasso.proofs.Agreeing.{takes_accepts, accepts_takes}
 use Rattle.search.specs.declared.records.Record.{Record}
 use Rattle.search.specs.declared.surveys.Findings.{Findings}
-use Rattle.search.specs.Surveys.{Allowed, Told, Surveyed}
+use Rattle.search.specs.Surveys.{Allowed, Told, Surveyed, Refused}
 use Rattle.member.specs.Maps.{chart_graph, word_graph}
 use Rattle.member.specs.Questions.{IsEmpty, Empties, IsMember, Members}
-use Rattle.member.proofs.ChartCycles.{cycle_taken, takes_cycle, accepts_cycle}
+use Rattle.member.proofs.ChartCycles.{cycle_taken, takes_cycle, accepts_cycle, not_more_states}
 use Rattle.member.proofs.WordCycles.{word_cycle_takes, takes_word_cycle}
 
 pub told_empty : (m : Automaton) → Limits m → (count : ℕ) (work : List Record) (found : Option ℕ)
@@ -41,6 +43,14 @@ answer_empty m m' same h n work found b len is s' =
       room = subst (λ x. More (chart_graph m) x → ⊥) len s.room;
       told = subst (λ x. IsEmpty m (not x)) (sym is) (told_empty m h found.count work found.witness s.told);
     }
+
+-- with a record for each state it is never refused
+pub never_refused : (m m' : Automaton) → m' ≡ m → Limits m → (was work : List Record) (e : SearchFault) → m.states ≤ length was
+    → length was ≤ 65536 → Refused (chart_graph m') was work e → ⊥
+never_refused m m' same h was work Table enough few (none, _) =
+    none (record { some_records = omega (arith, h.size.some_states, enough); few_records = few })
+never_refused m m' same h was work Full enough few (_, more) =
+    not_more_states m h (length was) enough (subst (λ x. More (chart_graph x) (length was)) same more)
 
 pub answer_member : (m m' : Automaton) → m' ≡ m → Limits m → (word : List ℕ) (stem n : ℕ) (work : List Record) (found : Findings) (b : Bool)
     → IsWord m.letters word stem → length work ≡ n → b ≡ is_some found.witness → Surveyed (word_graph m' word stem) work found

@@ -1,5 +1,5 @@
 // Does a chart take a word, or any word at all?
-ghost use Rattle.std.specs.Prelude.{◌≡◌, length, is_some, MatchResult};
+ghost use Rattle.std.specs.Prelude.{◌≡◌, ◌≤◌, length, is_some, IsOk, MatchResult};
 ghost use Rattle.member.specs.Maps.{chart_graph};
 ghost use Rattle.member.specs.Questions.{Empties, Members, MemberRefused};
 ghost use Rattle.search.specs.Surveys.{Refused};
@@ -18,9 +18,11 @@ fn has_cycle(found: Findings) -> bool
     found.witness.is_some()
 }
 
-// Does the chart take no word? Refused by 7 and 13 as a search of its states is.
+// Does the chart take no word? Refused by 7 and 13 as a search of its states is, so a table with a record for each state is
+// enough.
 pub fn empty<C: Chart>(chart: &C, work: &mut [Record]) -> Result<bool, SearchFault>
-    ensures { MatchResult result (Empties (C.Chart.meaning chart.now) (length work.old)) (Refused (chart_graph (C.Chart.meaning chart.now)) work.old work.new) }
+    ensures told { MatchResult result (Empties (C.Chart.meaning chart.now) (length work.old)) (Refused (chart_graph (C.Chart.meaning chart.now)) work.old work.new) }
+    ensures enough { (C.Chart.meaning chart.now).states ≤ length work.old → length work.old ≤ 65536 → IsOk result }
 {
     let map = ChartMap::new(chart);
     let found = survey(&map, NO_WORD, work)?;

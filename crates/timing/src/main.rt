@@ -11,16 +11,9 @@ use search::{Record, survey};
 use std::time::Instant;
 use std::{env, io};
 
-// What the table holds before a search, which may be anything: so it is no constant of the search.
-const BLANK: Record = Record {
-    node: 0,
-    letter: 0,
-    measure: 0,
-};
-
 // One search, in a table of 65,536 records.
 fn time(rt: &HostRuntime, name: &str, map: Band) -> anyhow::Result<()> {
-    let mut work = vec![in rt.alloc(); BLANK; 65_536]?;
+    let mut work = vec![in rt.alloc(); Record::default(); 65_536]?;
     let begun = Instant::now(rt)?;
     let result = survey(&map, NO_WORD, work.as_mut_slice());
     let spent = begun.elapsed(rt)?.as_micros();
