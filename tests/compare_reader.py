@@ -2,7 +2,8 @@
 """Compares the program with a reader of its own on random chart texts, many of them damaged.
 
 Build the program first (rt run in crates/carver), then: python3 tests/compare_reader.py [pairs] [seed]
-The reader below is written from docs/FORMAT.md alone, by regular expressions. Not part of the gate.
+The reader below is written from docs/FORMAT.md alone, by regular expressions, and emptiness is decided by sets of the
+states that steps lead to. Not part of the gate.
 """
 import random
 import re
@@ -14,17 +15,34 @@ from pathlib import Path
 
 PROGRAM = Path(__file__).resolve().parent.parent / "crates/carver/out/carver"
 NUMBER = r"(0|[1-9][0-9]?)"
-STATE = re.compile(NUMBER + r" [>.] [*.]")
+STATE = re.compile(NUMBER + r" ([>.]) ([*.])")
 STEP = re.compile(NUMBER + r" ([a-z#]) " + NUMBER)
 BYTES = b"\n 0123456789abpqz>*.#letrsfomyA\r\t~\x00\xff"
 
 
+def led_to(steps, states):
+    """The states that one step or more lead to from these."""
+    found = set()
+    fresh = set(states)
+    while fresh:
+        fresh = {q for p, q in steps if p in fresh} - found
+        found |= fresh
+    return found
+
+
+def is_empty(starts, marks, steps):
+    """No marked state that can be reached leads back to itself."""
+    reached = starts | led_to(steps, starts)
+    return not any(q in led_to(steps, {q}) for q in marks & reached)
+
+
 def read(text):
-    """(number, line) of the refusal, or (0, states, letters)."""
+    """(number, line) of the refusal, or (0, states, letters, whether it takes no word)."""
     if len(text) > 8192:
         return 1, 0
     *lines, rest = text.decode("latin1").split("\n")
     letters = states = 0
+    starts, marks, steps = set(), set(), set()
     part = "title"
     for at, line in enumerate(lines, 1):
         if part == "title":
@@ -52,6 +70,10 @@ def read(text):
                 return 1, at
             if int(found[1]) != states or states == 32:
                 return 2, at
+            if found[2] == ">":
+                starts.add(states)
+            if found[3] == "*":
+                marks.add(states)
             states += 1
         else:
             found = STEP.fullmatch(line)
@@ -60,9 +82,10 @@ def read(text):
             known = found[2] == "#" or ord(found[2]) - ord("a") < letters
             if max(int(found[1]), int(found[3])) >= states or not known:
                 return 2, at
+            steps.add((int(found[1]), int(found[3])))
     if rest or part != "steps":
         return 1, len(lines) + 1
-    return 0, states, letters
+    return 0, states, letters, "yes" if is_empty(starts, marks, steps) else "no"
 
 
 def sample(rng):
@@ -81,7 +104,7 @@ def sample(rng):
     text = [f"letters\n{letters}\nstate start mark\n"]
     text += [f"{q} {rng.choice('>.')} {rng.choice('*.')}\n" for q in range(states)]
     text += ["from by to\n"]
-    text += [f"{state()} {letter()} {state()}\n" for _ in range(rng.randint(0, 8))]
+    text += [f"{state()} {letter()} {state()}\n" for _ in range(rng.randint(0, 16))]
     damaged = bytearray("".join(text).encode())
     for _ in range(rng.choice([0, 0, 0, 1, 2])):
         at = rng.randrange(len(damaged) + 1)
@@ -102,8 +125,8 @@ def expected(duty, rule):
     for side, answer in answers.items():
         if answer[0]:
             return f"refused at place\n{answer[0]} {side} {answer[1]}\n"
-    rows = [f"{side} {states} {letters}\n" for side, (_, states, letters) in answers.items()]
-    return "chart states letters\n" + "".join(rows)
+    rows = [f"{side} {states} {letters} {empty}\n" for side, (_, states, letters, empty) in answers.items()]
+    return "chart states letters empty\n" + "".join(rows)
 
 
 def main():
@@ -118,8 +141,14 @@ def main():
             said = subprocess.run([PROGRAM], cwd=folder, capture_output=True, check=True).stdout.decode()
             if said != expected(duty, rule):
                 sys.exit(f"differs on\n{duty!r}\n{rule!r}\nexpected\n{expected(duty, rule)}said\n{said}")
-            seen[said.split("\n")[1].split()[0]] += 1
-    print(f"{pairs} pairs agree: {seen['1']} refused by 1, {seen['2']} by 2, {seen['duty']} read")
+            row = said.split("\n")[1].split()
+            seen[row[0]] += 1
+            if row[0] == "duty":
+                seen[row[-1]] += 1
+    print(
+        f"{pairs} pairs agree: {seen['1']} refused by 1, {seen['2']} by 2, {seen['duty']} read, "
+        f"of which the duty takes no word in {seen['yes']} and some in {seen['no']}"
+    )
 
 
 main()

@@ -4,27 +4,28 @@ use Rattle.chart.specs.Automata.{Automaton}
 use Rattle.fault.specs.declared.ChartFault.{ChartFault}
 use Rattle.fault.specs.declared.ChartFault.TheVariants.{Text, FewRows, Limits}
 use Rattle.fault.specs.declared.TextFault.TheVariants.{Form}
+use Rattle.member.specs.Questions.{IsEmpty}
 use Rattle.text.specs.Documents.{Tells}
 use Rattle.text.specs.Refused.{TextRefused}
-use Rattle.report.specs.declared.reports.Numbers.{Numbers}
 use Rattle.report.specs.declared.reports.Refusal.{Refusal}
 use Rattle.report.specs.declared.reports.Report.{Report}
 use Rattle.report.specs.declared.reports.Side.{Side}
 use Rattle.report.specs.declared.reports.Side.TheVariants.{Duty, Rule}
-use Rattle.report.specs.declared.reports.Sizes.{Sizes}
-use Rattle.text.specs.declared.loading.Loaded.{Loaded}
+use Rattle.report.specs.declared.reports.Summaries.{Summaries}
+use Rattle.report.specs.declared.reports.Summary.{Summary}
 
--- the numbers of states and letters of a chart that was loaded
-abbrev pub numbers_of : Loaded → Numbers
-numbers_of l = record { states = l.states; letters = l.letters }
+-- the automaton's numbers of states and letters, and whether it takes no word
+pub record Summarizes (m : Automaton) (s : Summary) : Type 0 where
+  pub states : s.states ≡ m.states
+  pub letters : s.letters ≡ m.letters
+  pub empty : IsEmpty m s.empty
 
--- a file of at most 8,192 bytes tells a chart of these numbers
-pub record Reads (text : List ℕ) (n : Numbers) : Type 0 where
+-- a file of at most 8,192 bytes tells a chart, and this is what is told of it
+pub record Reads (text : List ℕ) (s : Summary) : Type 0 where
   pub short : length text ≤ 8192
   pub chart : Automaton
   pub tells : Tells text chart
-  pub states : n.states ≡ chart.states
-  pub letters : n.letters ≡ chart.letters
+  pub summary : Summarizes chart s
 
 -- A longer file is refused as a whole, another at its first wrong line.
 abbrev pub FileRefused : List ℕ → ChartFault → Type 0
@@ -35,9 +36,9 @@ FileRefused text Limits = ⊥
 -- The duty is read before the rule.
 abbrev pub RefusedAt : List ℕ → List ℕ → Side → ChartFault → Type 0
 RefusedAt duty rule Duty e = FileRefused duty e
-RefusedAt duty rule Rule e = ((d : Numbers) × Reads duty d) × FileRefused rule e
+RefusedAt duty rule Rule e = ((d : Summary) × Reads duty d) × FileRefused rule e
 
-abbrev pub ReadsBoth : List ℕ → List ℕ → Sizes → Type 0
+abbrev pub ReadsBoth : List ℕ → List ℕ → Summaries → Type 0
 ReadsBoth duty rule s = Reads duty s.duty × Reads rule s.rule
 
 abbrev pub FirstRefused : List ℕ → List ℕ → Refusal → Type 0

@@ -3,4 +3,4 @@
 
 mod reports;
 
-pub use reports::{LIMIT, Numbers, Refusal, Report, Side, Sizes, read_texts};
+pub use reports::{LIMIT, Refusal, Report, Side, Summaries, Summary, read_texts};

@@ -4,6 +4,8 @@
 #[cfg(test)]
 mod contents;
 #[cfg(test)]
+mod emptiness;
+#[cfg(test)]
 mod forms;
 #[cfg(test)]
 mod ranges;

@@ -3,10 +3,10 @@ use report::read_texts;
 use std::alloc::{AllocError, Global};
 use std::test::Fail;
 
-// 2 states and 3 letters.
+// 2 states and 3 letters. The one step leads to the marked state, from which none leads on, so no word is taken.
 const DUTY: &str = "letters\n3\nstate start mark\n0 > .\n1 . *\nfrom by to\n0 a 1\n";
 
-// 1 state and 16 letters.
+// 1 state and 16 letters. Every word is taken.
 const RULE: &str = "letters\n16\nstate start mark\n0 > *\nfrom by to\n0 # 0\n";
 
 // Out of range at line 2.
@@ -36,12 +36,12 @@ fn both_read(rt: HostRuntime) -> Result<(), Fail> {
     let first = report(heap, DUTY, RULE)?;
     assert_eq!(rt;
         first.as_str(),
-        "chart states letters\nduty 2 3\nrule 1 16\n"
+        "chart states letters empty\nduty 2 3 yes\nrule 1 16 no\n"
     );
     let second = report(heap, RULE, DUTY)?;
     assert_eq!(rt;
         second.as_str(),
-        "chart states letters\nduty 1 16\nrule 2 3\n"
+        "chart states letters empty\nduty 1 16 no\nrule 2 3 yes\n"
     );
     Ok(())
 }
@@ -70,7 +70,10 @@ fn longest(rt: HostRuntime) -> Result<(), Fail> {
     let most = long(heap, "1")?;
     assert_eq!(rt; most.len(), 8192);
     let read = report(heap, most.as_str(), most.as_str())?;
-    assert_eq!(rt; read.as_str(), "chart states letters\nduty 1 1\nrule 1 1\n");
+    assert_eq!(rt;
+        read.as_str(),
+        "chart states letters empty\nduty 1 1 no\nrule 1 1 no\n"
+    );
     Ok(())
 }
 

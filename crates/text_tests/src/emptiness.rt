@@ -1,0 +1,71 @@
+// Whether a chart takes no word, as the report tells it.
+use report::{Report, read_texts};
+use std::alloc::{AllocError, Global};
+use std::test::Fail;
+
+// Is the duty told to take no word? None where a text is refused.
+fn is_empty(duty: &str) -> Option<bool> {
+    let rule = "letters\n1\nstate start mark\n0 > *\nfrom by to\n0 a 0\n";
+    let Report(told) = read_texts(duty.as_bytes(), rule.as_bytes());
+    told.ok().map(|summaries| summaries.duty.empty)
+}
+
+// A marked state that leads to itself is passed again and again, if it is a start or a start leads to it.
+#[test]
+fn marked_loops(rt: HostRuntime) {
+    let of_start = "letters\n1\nstate start mark\n0 > *\nfrom by to\n0 a 0\n";
+    assert_eq!(rt; is_empty(of_start), Some(false));
+    let behind_start = "letters\n2\nstate start mark\n0 > .\n1 . *\nfrom by to\n0 b 1\n1 a 1\n";
+    assert_eq!(rt; is_empty(behind_start), Some(false));
+    let out_of_reach = "letters\n2\nstate start mark\n0 > .\n1 . *\nfrom by to\n0 b 0\n1 a 1\n";
+    assert_eq!(rt; is_empty(out_of_reach), Some(true));
+    let before_start =
+        "letters\n1\nstate start mark\n0 > .\n1 . *\nfrom by to\n1 a 1\n1 a 0\n0 a 0\n";
+    assert_eq!(rt; is_empty(before_start), Some(true));
+}
+
+// There has to be a start, a mark, and a step.
+#[test]
+fn something_missing(rt: HostRuntime) {
+    let no_start = "letters\n1\nstate start mark\n0 . *\nfrom by to\n0 a 0\n";
+    assert_eq!(rt; is_empty(no_start), Some(true));
+    let no_mark = "letters\n1\nstate start mark\n0 > .\nfrom by to\n0 a 0\n";
+    assert_eq!(rt; is_empty(no_mark), Some(true));
+    let no_step = "letters\n1\nstate start mark\n0 > *\nfrom by to\n";
+    assert_eq!(rt; is_empty(no_step), Some(true));
+}
+
+// 0 leads to 1, which is marked, and 1 to 2, which leads to itself: 1 is passed once. With a step from 2 back to 1 it is passed
+// again and again.
+#[test]
+fn mark_on_the_way(rt: HostRuntime) {
+    let once =
+        "letters\n1\nstate start mark\n0 > .\n1 . *\n2 . .\nfrom by to\n0 a 1\n1 a 2\n2 a 2\n";
+    assert_eq!(rt; is_empty(once), Some(true));
+    let again =
+        "letters\n2\nstate start mark\n0 > .\n1 . *\n2 . .\nfrom by to\n0 a 1\n1 a 2\n2 a 2\n2 b 1\n";
+    assert_eq!(rt; is_empty(again), Some(false));
+}
+
+// A row of 32 states, of which the last is marked, with one step more. Each of them can be reached.
+fn row(heap: Global, step: &str) -> Result<String, AllocError> {
+    let mut text = String::from_str(heap, "letters\n16\nstate start mark\n0 > .\n")?;
+    for q in 1..31 {
+        text.push_str(format!(in heap; "{q} . .\n")?.as_str())?;
+    }
+    text.push_str("31 . *\nfrom by to\n")?;
+    for q in 0..31 {
+        text.push_str(format!(in heap; "{q} p {}\n", q + 1)?.as_str())?;
+    }
+    text.push_str(step)?;
+    Ok(text)
+}
+
+#[test]
+fn largest_chart(rt: HostRuntime) -> Result<(), Fail> {
+    let heap = rt.alloc();
+    assert_eq!(rt; is_empty(row(heap, "31 p 0\n")?.as_str()), Some(false));
+    assert_eq!(rt; is_empty(row(heap, "31 # 31\n")?.as_str()), Some(false));
+    assert_eq!(rt; is_empty(row(heap, "30 a 0\n")?.as_str()), Some(true));
+    Ok(())
+}
