@@ -1,5 +1,5 @@
 // When the two questions are refused, and by what, in which order.
-use crate::samples::{BLANK, table, told};
+use crate::samples::{records, table, told};
 use chart::{Chart, Table};
 use fault::{Fault, LassoFault, MemberFault, SearchFault};
 use member::{Record, empty};
@@ -23,8 +23,8 @@ fn tables(rt: HostRuntime) -> Result<(), Fail> {
     let chart = Table::new(1, 1, 0b1, 0b1, &rows)?;
     assert_eq!(rt; refused_empty(&chart, &mut []), 7);
     assert_eq!(rt; refused(&chart, &[0], 0, &mut []), 7);
-    assert_eq!(rt; empty(&chart, &mut [BLANK; 1]), Ok(false));
-    assert_eq!(rt; told(&chart, &[0], 0, &mut [BLANK; 1]), Ok(true));
+    assert_eq!(rt; empty(&chart, &mut records::<1>()), Ok(false));
+    assert_eq!(rt; told(&chart, &[0], 0, &mut records::<1>()), Ok(true));
     let mut most = table(rt.alloc(), 65536)?;
     assert_eq!(rt; empty(&chart, &mut most), Ok(false));
     assert_eq!(rt; told(&chart, &[0], 0, &mut most), Ok(true));
@@ -40,9 +40,9 @@ fn tables(rt: HostRuntime) -> Result<(), Fail> {
 fn records_for_states(rt: HostRuntime) -> Result<(), Fail> {
     let rows = [0b0010, 0b0100, 0b0001, 0b0001];
     let chart = Table::new(4, 1, 0b0001, 0b0100, &rows)?;
-    assert_eq!(rt; empty(&chart, &mut [BLANK; 2]), Err(SearchFault::Full));
-    assert_eq!(rt; refused_empty(&chart, &mut [BLANK; 2]), 13);
-    assert_eq!(rt; empty(&chart, &mut [BLANK; 3]), Ok(false));
+    assert_eq!(rt; empty(&chart, &mut records::<2>()), Err(SearchFault::Full));
+    assert_eq!(rt; refused_empty(&chart, &mut records::<2>()), 13);
+    assert_eq!(rt; empty(&chart, &mut records::<3>()), Ok(false));
     Ok(())
 }
 
@@ -51,14 +51,14 @@ fn records_for_states(rt: HostRuntime) -> Result<(), Fail> {
 fn records_for_places(rt: HostRuntime) -> Result<(), Fail> {
     let rows = [0b010, 0b100, 0b001];
     let chart = Table::new(3, 1, 0b001, 0b100, &rows)?;
-    let few = told(&chart, &[0, 0], 0, &mut [BLANK; 5]);
+    let few = told(&chart, &[0, 0], 0, &mut records::<5>());
     assert_eq!(rt; few, Err(MemberFault::Search(SearchFault::Full)));
-    assert_eq!(rt; refused(&chart, &[0, 0], 0, &mut [BLANK; 5]), 13);
-    assert_eq!(rt; told(&chart, &[0, 0], 0, &mut [BLANK; 6]), Ok(true));
+    assert_eq!(rt; refused(&chart, &[0, 0], 0, &mut records::<5>()), 13);
+    assert_eq!(rt; told(&chart, &[0, 0], 0, &mut records::<6>()), Ok(true));
     // the stem of one letter adds its place with state 0, and the loop of one letter has three
-    let few = told(&chart, &[0, 0], 1, &mut [BLANK; 3]);
+    let few = told(&chart, &[0, 0], 1, &mut records::<3>());
     assert_eq!(rt; few, Err(MemberFault::Search(SearchFault::Full)));
-    assert_eq!(rt; told(&chart, &[0, 0], 1, &mut [BLANK; 4]), Ok(true));
+    assert_eq!(rt; told(&chart, &[0, 0], 1, &mut records::<4>()), Ok(true));
     Ok(())
 }
 
@@ -67,7 +67,7 @@ fn records_for_places(rt: HostRuntime) -> Result<(), Fail> {
 fn lengths(rt: HostRuntime) -> Result<(), Fail> {
     let rows = [0];
     let chart = Table::new(1, 1, 0b1, 0b1, &rows)?;
-    let mut work = [BLANK; 1];
+    let mut work = records::<1>();
     let limits = Err(MemberFault::Word(LassoFault::Limits));
     assert_eq!(rt; told(&chart, &[], 0, &mut work), limits);
     assert_eq!(rt; told(&chart, &[0], 0, &mut work), Ok(false));
@@ -86,7 +86,7 @@ fn lengths(rt: HostRuntime) -> Result<(), Fail> {
 fn loops_and_letters(rt: HostRuntime) -> Result<(), Fail> {
     let rows = [0b1, 0b1];
     let chart = Table::new(1, 2, 0b1, 0b1, &rows)?;
-    let mut work = [BLANK; 8];
+    let mut work = records::<8>();
     assert_eq!(rt; told(&chart, &[0, 1], 1, &mut work), Ok(true));
     let limits = Err(MemberFault::Word(LassoFault::Limits));
     assert_eq!(rt; told(&chart, &[0, 1], 2, &mut work), limits);
@@ -106,10 +106,10 @@ fn order(rt: HostRuntime) -> Result<(), Fail> {
     let chart = Table::new(2, 1, 0b01, 0b10, &rows)?;
     assert_eq!(rt; refused(&chart, &[], 0, &mut []), 7);
     assert_eq!(rt; refused(&chart, &[1], 0, &mut []), 7);
-    assert_eq!(rt; refused(&chart, &[1], 0, &mut [BLANK; 1]), 8);
-    assert_eq!(rt; refused(&chart, &[0], 1, &mut [BLANK; 1]), 8);
-    assert_eq!(rt; refused(&chart, &[0], 0, &mut [BLANK; 1]), 13);
-    assert_eq!(rt; refused(&chart, &[0], 0, &mut [BLANK; 2]), 0);
+    assert_eq!(rt; refused(&chart, &[1], 0, &mut records::<1>()), 8);
+    assert_eq!(rt; refused(&chart, &[0], 1, &mut records::<1>()), 8);
+    assert_eq!(rt; refused(&chart, &[0], 0, &mut records::<1>()), 13);
+    assert_eq!(rt; refused(&chart, &[0], 0, &mut records::<2>()), 0);
     Ok(())
 }
 
