@@ -170,7 +170,7 @@ module _ (g : Graph) where
       let e = edges n (omega arith) in
       go (reach_along at by s n (λ k h. edges k (omega arith))) (by n, e.0, e.1)
 
-  path_along : (at by : ℕ → ℕ) (d i j : ℕ) → i + d ≡ j → ((k : ℕ) → k < j → Goes g at by k) → Path g (at i) (at j)
+  pub path_along : (at by : ℕ → ℕ) (d i j : ℕ) → i + d ≡ j → ((k : ℕ) → k < j → Goes g at by k) → Path g (at i) (at j)
   path_along at by zero i j e edges = let same : i ≡ j = omega arith in subst (λ x. Path g (at i) (at x)) same here
   path_along at by (suc d) i j e edges =
       let s = edges i (omega arith) in

@@ -1,3 +1,4 @@
 pub mod Graphs
 pub mod Least
 pub mod Walks
+pub mod Witnesses

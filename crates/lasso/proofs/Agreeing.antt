@@ -1,12 +1,12 @@
 -- To take a word is to accept it as an endless word. The run that takes it is itself a lasso: its loop is from the state
 -- that it comes back to.
-use Rattle.std.proofs.Common.{◌≡◌, ℕ, suc, ◌+◌, ◌-◌, ◌*◌, ◌<◌, ◌≤◌, true, List, length, get_or, sym, ap, ◌∙◌, ⊎_elim, mul_assoc, le-mul_of_pos_right, arith}
+use Rattle.std.proofs.Common.{◌≡◌, ℕ, suc, ◌+◌, ◌-◌, ◌*◌, ◌<◌, ◌≤◌, true, List, length, get_or, sym, ap, ◌∙◌, ⊎_elim, le-mul_of_pos_right, arith}
 use Rattle.std.proofs.lemmas.Bool.{cases_lt}
 use Rattle.chart.specs.Automata.{Automaton, Limits}
 use Rattle.lasso.specs.Agreement.{TakenIsAccepted}
 use Rattle.lasso.specs.Positions.{place}
 use Rattle.lasso.specs.Words.{letter, Takes, Accepts}
-use Rattle.lasso.proofs.Places.{place_first, place_zero, place_below, place_next, place_laps, place_apart, place_back, after_next, after_last}
+use Rattle.lasso.proofs.Places.{place_first, place_zero, place_below, place_next, place_laps, place_unrolled, after_next, after_last}
 use Rattle.lasso.proofs.Returning.{runs_return}
 
 module _ (m : Automaton) (word : List ℕ) (stem : ℕ) (h : stem < length word) (t : Takes m word stem) where
@@ -18,15 +18,7 @@ module _ (m : Automaton) (word : List ℕ) (stem : ℕ) (h : stem < length word)
   spot_letter : (k : ℕ) → letter word stem (spot k) ≡ letter word stem k
   unfolding spot
   spot_letter k =
-      ⊎_elim (λ (low : k < t.to). ap (letter word stem) (place_first t.to t.from k low))
-      (λ (high : t.to ≤ k).
-      let b = place_back t.to t.from k t.goes (omega (arith, t.goes)) in
-      let c = b.2.0 in
-      let d = t.laps.0 in
-      let e : k - spot k ≡ (c * d) * (length word - stem) = b.2.1 ∙ (ap (λ x. c * x) t.laps.1 ∙ sym (mul_assoc c d (length word - stem))) in
-      let s : stem ≤ spot k = omega (arith, t.in_loop, b.0) in
-      ap (λ x. get_or word x 0) (sym (place_apart (length word) stem (spot k) k (c * d) h s b.1 e)))
-      (cases_lt k t.to)
+      ap (λ x. get_or word x 0) (place_unrolled (length word) stem t.from t.to t.laps.0 k h t.in_loop t.goes t.laps.1)
 
   -- and the next state is that of the next spot
   spot_next : (k : ℕ) → t.run (suc (spot k)) ≡ t.run (spot (suc k))

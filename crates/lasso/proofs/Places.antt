@@ -1,8 +1,8 @@
 -- The laws of positions: how the places follow each other, and which positions share a place.
-use Rattle.std.proofs.Common.{◌≡◌, ℕ, suc, ◌+◌, ◌-◌, ◌*◌, ◌/◌, ◌%◌, ◌<◌, ◌≤◌, ltb, sym, refl, ◌∙◌, ⊎_elim, mod-lt, mod-eq_of_lt, mul_comm, arith}
+use Rattle.std.proofs.Common.{◌≡◌, ℕ, suc, ◌+◌, ◌-◌, ◌*◌, ◌/◌, ◌%◌, ◌<◌, ◌≤◌, ltb, sym, refl, ap, ◌∙◌, ⊎_elim, mod-lt, mod-eq_of_lt, mul_assoc, mul_comm, arith}
 use native.Mathlib.Nat.{mod_self, suc-mod, mul-sub, add-mul-mod_self_right}
 use Rattle.std.proofs.lemmas.Nat.{div-add-mod'}
-use Rattle.std.proofs.lemmas.Bool.{lt-ltb, le-ltb, cond-true, cond-false, cases_lt}
+use Rattle.std.proofs.lemmas.Bool.{lt-ltb, le-ltb, ltb-true, cond_both, cond-true, cond-false, cases_lt}
 use Rattle.lasso.specs.Agreement.{PlacesRepeat}
 use Rattle.lasso.specs.Positions.{place, after}
 
@@ -22,6 +22,9 @@ after_next n j p h = cond-true (ltb (suc p) n) (suc p) j (lt-ltb (suc p) n h)
 
 pub after_last : (n j p : ℕ) → n ≤ suc p → after n j p ≡ j
 after_last n j p h = cond-false (ltb (suc p) n) (suc p) j (le-ltb (suc p) n h)
+
+pub after_below : (n j p : ℕ) → j < n → after n j p < n
+after_below n j p h = cond_both (ltb (suc p) n) (suc p) j (λ x. x < n) (λ e. ltb-true (suc p) n e) (λ e. h)
 
 pub place_zero : (n j : ℕ) → j < n → place n j 0 ≡ 0
 place_zero n j h = place_first n j 0 (omega arith)
@@ -85,6 +88,20 @@ place_back n j k h g =
     let e = place_loop n j k h g in
     let d = div-add-mod' (k - j) (n - j) in
     rw e (omega arith, omega arith, ((k - j) / (n - j), omega arith))
+
+-- laps of laps are laps
+pub laps_joined : (n c m d p : ℕ) → n ≡ c * m → m ≡ d * p → n ≡ (c * d) * p
+laps_joined n c m d p e f = e ∙ (ap (λ x. c * x) f ∙ sym (mul_assoc c d p))
+
+-- A lasso unrolled for whole laps, from a position of its loop on, has the same places.
+pub place_unrolled : (n j from to d k : ℕ) → j < n → j ≤ from → from < to → to - from ≡ d * (n - j) → place n j (place to from k) ≡ place n j k
+place_unrolled n j from to d k h late goes laps =
+    ⊎_elim (λ (low : k < to). ap (place n j) (place_first to from k low))
+    (λ (high : to ≤ k).
+    let b = place_back to from k goes (omega arith) in
+    let e = laps_joined (k - place to from k) b.2.0 (to - from) d (n - j) b.2.1 laps in
+    sym (place_apart n j (place to from k) k (b.2.0 * d) h (omega (arith, b.0)) b.1 e))
+    (cases_lt k to)
 
 pub places_repeat : PlacesRepeat
 places_repeat n j h =

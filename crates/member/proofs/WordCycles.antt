@@ -1,47 +1,40 @@
 -- A chart takes a word within its limits exactly if its graph along the word has a marked cycle.
-use Rattle.std.proofs.Common.{◌≡◌, ℕ, zero, suc, ◌+◌, ◌*◌, ◌/◌, ◌%◌, ◌<◌, ◌≤◌, true, List, length, get_or, sym, ap, ◌∙◌, subst, arith}
+use Rattle.std.proofs.Common.{◌≡◌, ℕ, suc, ◌+◌, ◌*◌, ◌/◌, ◌%◌, ◌<◌, List, length, get_or, sym, ap, ◌∙◌, arith}
 use Rattle.std.proofs.lemmas.Nat.{div-mul-add, mod-mul-add}
 use Rattle.chart.specs.Automata.{Automaton, Limits}
 use Rattle.graph.specs.Walks.{MarkedCycle}
-use Rattle.graph.proofs.Loops.{Loop, Goes, cycle_loop, loop_cycle}
+use Rattle.graph.proofs.Loops.{Goes, loop_cycle}
+use Rattle.graph.proofs.Rounds.{GoesAlong, cycle_round}
 use Rattle.lasso.specs.Positions.{IsLasso, place, after}
 use Rattle.lasso.specs.Words.{Takes, letter}
-use Rattle.lasso.proofs.Places.{place_apart, place_below, place_next, place_same, place_zero}
+use Rattle.lasso.proofs.Places.{place_apart, place_below, place_next, place_zero}
 use Rattle.member.specs.Bounds.{Node, edge_true}
 use Rattle.member.specs.Maps.{word_graph}
 use Rattle.member.proofs.Along.{edge_from, marked_from, marked_true, start_from, start_true}
 
 module _ (m : Automaton) (word : List ℕ) (stem : ℕ) (lasso : IsLasso (length word) stem) where
-  -- a loop passes the places in their order
-  loop_place : (l : Loop (word_graph m word stem)) (k : ℕ) → k ≤ l.to → l.at k / 32 ≡ place (length word) stem k
-  loop_place l zero h = (start_true m word stem (l.at 0) l.starts).1 ∙ sym (place_zero (length word) stem lasso.loops)
-  loop_place l (suc k) h =
-      let a = edge_true m word stem (l.at k) (l.by k) (l.at (suc k)) (l.edges k (omega arith)).1 in
-      a.place ∙ (ap (after (length word) stem) (loop_place l k (omega arith)) ∙ sym (place_next (length word) stem k lasso.loops))
-
-  loop_step : (l : Loop (word_graph m word stem)) (k : ℕ) → k < l.to → m.step (l.at k % 32) (letter word stem k) (l.at (suc k) % 32) ≡ true
-  loop_step l k h =
-      let a = edge_true m word stem (l.at k) (l.by k) (l.at (suc k)) (l.edges k h).1 in
-      let e : l.by k ≡ letter word stem k = a.letter ∙ ap (λ x. get_or word x 0) (loop_place l k (omega arith)) in
-      subst (λ x. m.step (l.at k % 32) x (l.at (suc k) % 32) ≡ true) e a.step
+  along : GoesAlong (word_graph m word stem) m (λ p. get_or word p 0) (length word) stem
+  along =
+      record {
+        starts = λ v e. let a = start_true m word stem v e in (a.1, a.2);
+        marks = marked_true m word stem;
+        edges = λ v l w e. let a = edge_true m word stem v l w e in (a.letter, a.place, a.step);
+      }
 
   pub word_cycle_takes : MarkedCycle (word_graph m word stem) → Takes m word stem
   word_cycle_takes c =
-      let l = cycle_loop (word_graph m word stem) c in
-      let e : place (length word) stem l.from ≡ place (length word) stem l.to =
-      sym (loop_place l l.from (omega (arith, l.goes))) ∙ (ap (λ v. v / 32) l.closes ∙ loop_place l l.to (omega arith)) in
-      let laps = place_same (length word) stem l.from l.to lasso.loops l.goes e in
+      let r = cycle_round (word_graph m word stem) m (λ p. get_or word p 0) (length word) stem lasso.loops along c in
       record {
-        run = λ k. l.at k % 32;
-        from = l.from;
-        to = l.to;
-        starts = (start_true m word stem (l.at 0) l.starts).2;
-        steps = loop_step l;
-        in_loop = laps.0;
-        goes = l.goes;
-        laps = laps.1;
-        closes = ap (λ v. v % 32) l.closes;
-        passes = (l.passes.0, l.passes.1, l.passes.2, marked_true m word stem (l.at l.passes.0) l.passes.3);
+        run = r.run;
+        from = r.from;
+        to = r.to;
+        starts = r.starts;
+        steps = r.steps;
+        in_loop = r.in_loop;
+        goes = r.goes;
+        laps = r.laps;
+        closes = r.closes;
+        passes = r.passes;
       }
 
   module _ (h : Limits m) (t : Takes m word stem) where

@@ -1,11 +1,12 @@
 -- Both graphs keep the bounds of graphs.
-use Rattle.std.specs.Prelude.{◌≡◌, ℕ, suc, ◌/◌, ◌%◌, ◌<◌, true, ◌&&◌, List, length, ◌==◌, nat_eq, nat_lt, slice_index}
+use Rattle.std.specs.Prelude.{◌≡◌, ℕ, ◌/◌, ◌%◌, ◌<◌, true, ◌&&◌, List, length, ◌==◌, nat_eq, nat_lt, slice_index}
 use Rattle.std.proofs.Common.{arith}
-use Rattle.std.proofs.lemmas.Bool.{and_parts, and_from, cond_both, eqb-true, lt-ltb, ltb-true}
+use Rattle.std.proofs.lemmas.Bool.{and_parts, and_from, eqb-true, lt-ltb, ltb-true}
 use Rattle.chart.specs.Automata.{Automaton, Limits}
 use Rattle.graph.specs.Graphs.{Bounded}
 use Rattle.lasso.specs.Positions.{IsLasso, is_lasso, after}
 use Rattle.lasso.specs.Tests.{lasso_true, lasso_from}
+use Rattle.lasso.proofs.Places.{after_below}
 use Rattle.member.specs.Maps.{chart_graph, word_node, word_graph}
 
 pub chart_bounded : (m : Automaton) → Limits m → Bounded (chart_graph m)
@@ -19,9 +20,6 @@ chart_bounded m h =
           λ v l w e. let s = h.steps v l w e in
           (lt-ltb v m.states s.0, s.1, lt-ltb w m.states s.2);
     }
-
-pub after_below : (n j p : ℕ) → j < n → after n j p < n
-after_below n j p h = cond_both (nat_lt (suc p) n) (suc p) j (λ x. x < n) (λ e. ltb-true (suc p) n e) (λ e. h)
 
 -- what it is to be a node along a word
 pub record Node (m : Automaton) (word : List ℕ) (stem v : ℕ) : Type 0 where
