@@ -1,12 +1,27 @@
 -- A graph whose nodes are states of an automaton at places of a lasso: each of its marked cycles is a run of the
 -- automaton that closes whole laps later.
-use Rattle.std.proofs.Common.{◌≡◌, ℕ, zero, suc, ◌-◌, ◌*◌, ◌/◌, ◌%◌, ◌<◌, ◌≤◌, true, sym, ap, ◌∙◌, subst, arith}
+use Rattle.std.proofs.Common.{◌≡◌, ℕ, zero, suc, ◌+◌, ◌-◌, ◌*◌, ◌/◌, ◌%◌, ◌<◌, ◌≤◌, true, sym, ap, ◌∙◌, subst, arith}
+use Rattle.std.proofs.lemmas.Nat.{div-mul-add, mod-mul-add}
 use Rattle.chart.specs.Automata.{Automaton}
 use Rattle.graph.specs.Graphs.{Graph}
 use Rattle.graph.specs.Walks.{MarkedCycle}
 use Rattle.graph.proofs.Loops.{Loop, cycle_loop}
 use Rattle.lasso.specs.Positions.{place, after}
-use Rattle.lasso.proofs.Places.{place_next, place_same, place_zero}
+use Rattle.lasso.proofs.Places.{place_apart, place_next, place_same, place_zero}
+
+-- the node of state q at position k, in a lasso of n elements with a stem of j
+abbrev pub spot : ℕ → ℕ → ℕ → ℕ → ℕ
+spot n j k q = place n j k * 32 + q
+
+pub spot_place : (n j k q : ℕ) → q < 32 → spot n j k q / 32 ≡ place n j k
+spot_place n j k q h = div-mul-add (place n j k) 32 q h
+
+pub spot_state : (n j k q : ℕ) → q < 32 → spot n j k q % 32 ≡ q
+spot_state n j k q h = mod-mul-add (place n j k) 32 q h
+
+-- whole laps later the same state is the same node
+pub spot_laps : (n j k l c p q : ℕ) → j < n → j ≤ k → k ≤ l → l - k ≡ c * (n - j) → p ≡ q → spot n j k p ≡ spot n j l q
+spot_laps n j k l c p q h late later laps same = omega (arith, place_apart n j k l c h late later laps, same)
 
 -- A node v is the state v % 32 of m at place v / 32 of a lasso of n elements with a stem of j, and edges are steps of m
 -- by the letter at the place.

@@ -1,13 +1,12 @@
 -- A chart takes a word within its limits exactly if its graph along the word has a marked cycle.
-use Rattle.std.proofs.Common.{◌≡◌, ℕ, suc, ◌+◌, ◌*◌, ◌/◌, ◌%◌, ◌<◌, List, length, get_or, sym, ap, ◌∙◌, arith}
-use Rattle.std.proofs.lemmas.Nat.{div-mul-add, mod-mul-add}
+use Rattle.std.proofs.Common.{◌≡◌, ℕ, suc, ◌/◌, ◌%◌, ◌<◌, List, length, get_or, sym, ap, ◌∙◌, arith}
 use Rattle.chart.specs.Automata.{Automaton, Limits}
 use Rattle.graph.specs.Walks.{MarkedCycle}
 use Rattle.graph.proofs.Loops.{Goes, loop_cycle}
-use Rattle.graph.proofs.Rounds.{GoesAlong, cycle_round}
+use Rattle.graph.proofs.Rounds.{GoesAlong, cycle_round, spot, spot_laps, spot_place, spot_state}
 use Rattle.lasso.specs.Positions.{IsLasso, place, after}
 use Rattle.lasso.specs.Words.{Takes, letter}
-use Rattle.lasso.proofs.Places.{place_apart, place_below, place_next, place_zero}
+use Rattle.lasso.proofs.Places.{place_below, place_next, place_zero}
 use Rattle.member.specs.Bounds.{Node, edge_true}
 use Rattle.member.specs.Maps.{word_graph}
 use Rattle.member.proofs.Along.{edge_from, marked_from, marked_true, start_from, start_true}
@@ -38,9 +37,9 @@ module _ (m : Automaton) (word : List ℕ) (stem : ℕ) (lasso : IsLasso (length
       }
 
   module _ (h : Limits m) (t : Takes m word stem) where
-    -- the node of position k: its place, with the run's state
-    spot : ℕ → ℕ
-    spot k = place (length word) stem k * 32 + t.run k
+    -- the node of position k
+    at : ℕ → ℕ
+    at k = spot (length word) stem k (t.run k)
 
     run_below : (k : ℕ) → k < t.to → t.run k < m.states
     run_below k low = (h.steps (t.run k) (letter word stem k) (t.run (suc k)) (t.steps k low)).0
@@ -48,41 +47,39 @@ module _ (m : Automaton) (word : List ℕ) (stem : ℕ) (lasso : IsLasso (length
     next_below : (k : ℕ) → k < t.to → t.run (suc k) < m.states
     next_below k low = (h.steps (t.run k) (letter word stem k) (t.run (suc k)) (t.steps k low)).2
 
-    spot_place : (k : ℕ) → t.run k < m.states → spot k / 32 ≡ place (length word) stem k
-    unfolding spot
-    spot_place k b = div-mul-add (place (length word) stem k) 32 (t.run k) (omega (arith, h.size.few_states))
+    at_place : (k : ℕ) → t.run k < m.states → at k / 32 ≡ place (length word) stem k
+    unfolding at
+    at_place k b = spot_place (length word) stem k (t.run k) (omega (arith, h.size.few_states))
 
-    spot_state : (k : ℕ) → t.run k < m.states → spot k % 32 ≡ t.run k
-    unfolding spot
-    spot_state k b = mod-mul-add (place (length word) stem k) 32 (t.run k) (omega (arith, h.size.few_states))
+    at_state : (k : ℕ) → t.run k < m.states → at k % 32 ≡ t.run k
+    unfolding at
+    at_state k b = spot_state (length word) stem k (t.run k) (omega (arith, h.size.few_states))
 
-    spot_node : (k : ℕ) → t.run k < m.states → Node m word stem (spot k)
-    spot_node k b =
+    at_node : (k : ℕ) → t.run k < m.states → Node m word stem (at k)
+    at_node k b =
         record {
           lasso = lasso;
-          place = rw (spot_place k b) (place_below (length word) stem k lasso.loops);
-          state = rw (spot_state k b) b;
+          place = rw (at_place k b) (place_below (length word) stem k lasso.loops);
+          state = rw (at_state k b) b;
         }
 
-    spot_edge : (k : ℕ) → k < t.to → Goes (word_graph m word stem) spot (letter word stem) k
-    spot_edge k low =
+    at_edge : (k : ℕ) → k < t.to → Goes (word_graph m word stem) at (letter word stem) k
+    at_edge k low =
         let b = run_below k low in
         let d = next_below k low in (
           (h.steps (t.run k) (letter word stem k) (t.run (suc k)) (t.steps k low)).1,
-          edge_from m word stem (spot k) (letter word stem k) (spot (suc k)) (record {
-            node = spot_node k b;
-            letter = ap (λ x. get_or word x 0) (sym (spot_place k b));
-            place = spot_place (suc k) d ∙ (place_next (length word) stem k lasso.loops ∙ ap (after (length word) stem) (sym (spot_place k b)));
-            step = rw (spot_state k b, spot_state (suc k) d) (t.steps k low);
+          edge_from m word stem (at k) (letter word stem k) (at (suc k)) (record {
+            node = at_node k b;
+            letter = ap (λ x. get_or word x 0) (sym (at_place k b));
+            place = at_place (suc k) d ∙ (place_next (length word) stem k lasso.loops ∙ ap (after (length word) stem) (sym (at_place k b)));
+            step = rw (at_state k b, at_state (suc k) d) (t.steps k low);
           }),
         )
 
-    -- whole laps later the run is at the same place
-    spot_closes : spot t.from ≡ spot t.to
-    unfolding spot
-    spot_closes =
-        let e = place_apart (length word) stem t.from t.to t.laps.0 lasso.loops t.in_loop (omega (arith, t.goes)) t.laps.1 in
-        omega (arith, e, t.closes)
+    at_closes : at t.from ≡ at t.to
+    unfolding at
+    at_closes =
+        spot_laps (length word) stem t.from t.to t.laps.0 (t.run t.from) (t.run t.to) lasso.loops t.in_loop (omega (arith, t.goes)) t.laps.1 t.closes
 
     pub takes_word_cycle : MarkedCycle (word_graph m word stem)
     takes_word_cycle =
@@ -90,15 +87,15 @@ module _ (m : Automaton) (word : List ℕ) (stem : ℕ) (lasso : IsLasso (length
         let k = t.passes.0 in
         let mark = run_below k t.passes.2 in
         loop_cycle (word_graph m word stem) (record {
-          at = spot;
+          at = at;
           by = letter word stem;
           from = t.from;
           to = t.to;
           starts =
-              start_from m word stem (spot 0) (spot_node 0 start) (spot_place 0 start ∙ place_zero (length word) stem lasso.loops)
-              (rw (spot_state 0 start) t.starts);
-          edges = spot_edge;
+              start_from m word stem (at 0) (at_node 0 start) (at_place 0 start ∙ place_zero (length word) stem lasso.loops)
+              (rw (at_state 0 start) t.starts);
+          edges = at_edge;
           goes = t.goes;
-          closes = spot_closes;
-          passes = (k, t.passes.1, t.passes.2, marked_from m word stem (spot k) (spot_node k mark) (rw (spot_state k mark) t.passes.3));
+          closes = at_closes;
+          passes = (k, t.passes.1, t.passes.2, marked_from m word stem (at k) (at_node k mark) (rw (at_state k mark) t.passes.3));
         })

@@ -1,3 +1,4 @@
 pub mod Below
 pub mod Pigeonhole
+pub mod Counts
 pub mod Returning

@@ -1,5 +1,5 @@
--- Tests of all numbers below a bound.
-use Rattle.std.specs.Prelude.{ℕ, zero, suc, Bool, true, false, ◌&&◌, ◌||◌}
+-- Of the numbers below a bound: whether each passes a test, whether some does, and how many do.
+use Rattle.std.specs.Prelude.{ℕ, zero, suc, ◌+◌, Bool, true, false, cond, ◌&&◌, ◌||◌}
 
 -- each number below n passes
 abbrev pub all_below : ℕ → (ℕ → Bool) → Bool
@@ -10,3 +10,8 @@ all_below (suc n) p = p n && all_below n p
 abbrev pub any_below : ℕ → (ℕ → Bool) → Bool
 any_below zero p = false
 any_below (suc n) p = p n || any_below n p
+
+-- how many numbers below n pass
+abbrev pub count_below : ℕ → (ℕ → Bool) → ℕ
+count_below zero p = 0
+count_below (suc n) p = count_below n p + cond (p n) 1 0

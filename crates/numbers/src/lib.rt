@@ -1,2 +1,3 @@
-// Facts on natural numbers that the proofs of several crates need. It has no code: see proofs/.
+// Tests of numbers that several crates use, and facts on numbers that their proofs need. It has no code: see specs/ and
+// proofs/.
 #![tactic(auto)]

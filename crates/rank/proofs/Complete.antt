@@ -3,7 +3,7 @@
 -- make of them. A state that is owed for long would have a run of even ranks behind it, so the owed set becomes empty again
 -- and again; and the duty's marked states set the turn again and again.
 use Rattle.std.proofs.Common.{◌≡◌, ℕ, zero, suc, ◌+◌, ◌-◌, ◌*◌, ◌<◌, ◌≤◌, Bool, true, false, cond, ◌⊎◌, inl, inr, Option, Some, None, refl, ap, sym, subst, ◌∙◌, ⊎_elim, arith}
-use Rattle.std.proofs.lemmas.Bool.{and_from, both_ways, cases_Bool, cond-false, cond-true, false_from_ne_true, false≢true}
+use Rattle.std.proofs.lemmas.Bool.{both_ways, cases_Bool, cond-false, cond-true, false_from_ne_true, false≢true}
 use Rattle.chart.specs.Automata.{Automaton}
 use Rattle.lasso.specs.Words.{Accepts}
 use Rattle.lasso.proofs.Returning.{run_below}
@@ -13,15 +13,15 @@ use Rattle.rank.specs.Layout.{parts, number}
 use Rattle.rank.specs.Nodes.{Node}
 use Rattle.rank.specs.Numbering.{IsNode}
 use Rattle.rank.specs.Ranked.{is_number}
-use Rattle.rank.specs.Rules.{top_rank, is_even, has_even, is_empty, is_first_rank, is_next_rank, next_owed, next_turn, is_start, is_marked}
+use Rattle.rank.specs.Rules.{top_rank, is_even, has_even, is_empty, is_first_rank, is_next_rank, next_owed, next_turn}
 use Rattle.rank.specs.Subsets.{level}
 use Rattle.numbers.specs.Below.{any_below}
 use Rattle.numbers.proofs.Below.{any_at, any_from}
-use Rattle.rank.proofs.Laws.{empty_from, first_none, first_some, marked_from, next_none, next_some, owed_before, owed_even as next_even, some_member, top_even, turn_lasts, turn_waits}
+use Rattle.rank.proofs.Laws.{empty_from, first_none, first_some, next_none, next_some, owed_before, owed_even as next_even, some_member, top_even, turn_lasts, turn_waits}
 use Rattle.rank.proofs.Numbers.{numbers_correspond}
 use Rattle.rank.proofs.OddRankings.{EvenRun, OddRanking, run_more, run_one}
 use Rattle.rank.proofs.Subsets.{level_before, level_below, level_next}
-use Rattle.rank.proofs.Tests.{Start, Step, edge_test, start_test}
+use Rattle.rank.proofs.Tests.{Start, Step, edge_test, first_test, mark_test}
 
 -- a number from k on that passes, or none of the next d
 first_or_none : (f : ℕ → Bool) (d k : ℕ) → ((t : ℕ) × (k ≤ t) × (f t ≡ true)) ⊎ ((t : ℕ) → k ≤ t → t < k + d → f t ≡ false)
@@ -222,9 +222,7 @@ module _ (a b : Automaton) (charts : Charts a b) (word : ℕ → ℕ) (width : �
   complete =
       record {
         run = at;
-        starts =
-            and_from (is_number a b (at 0)) (is_start a b (parts (at 0))) (at_is 0).0
-            (subst (λ x. is_start a b x ≡ true) (sym (at_is 0).1) (start_test a b (node 0) start_is));
+        starts = first_test a b (at 0) (at_is 0).0 (subst (Start a b) (sym (at_is 0).1) start_is);
         steps =
             λ k. edge_test a b (at k) (word k) (at (suc k)) (record {
               from = (at_is k).0;
@@ -236,11 +234,10 @@ module _ (a b : Automaton) (charts : Charts a b) (word : ℕ → ℕ) (width : �
             });
         again =
             λ k. let m = marked_again k in
-            let v = at m.0 in (
+            let same = sym (at_is m.0).1 in (
               m.0,
               m.1,
-              and_from (is_number a b v) (is_marked b (parts v)) (at_is m.0).0
-                  (subst (λ x. is_marked b x ≡ true) (sym (at_is m.0).1) (marked_from b (node m.0) m.2 m.3)),
+              mark_test a b (at m.0) (at_is m.0).0 (subst (λ x. x.turn ≡ true) same m.2) (subst (λ x. is_empty b x.owed ≡ true) same m.3),
             );
       }
 

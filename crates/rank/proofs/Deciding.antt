@@ -81,8 +81,8 @@ module _ (a b : Automaton) (charts : Charts a b) where
         alone = lasso_alone l.at (loop_word g l) l.from m;
       }
 
-  none_contains : (MarkedCycle (ranked_graph a b) → ⊥) → Included a b
-  none_contains none word stem h taken =
+  none_includes : (MarkedCycle (ranked_graph a b) → ⊥) → Included a b
+  none_includes none word stem h taken =
       ⊎_elim (λ both. both)
       (λ rejected. absurd (none (alone_cycle word stem h (record { taken = taken; rejected = rejected }))))
       (taking_is_decided b charts.rule word stem h)
@@ -94,12 +94,12 @@ pub cycles_decide : CyclesDecide
 cycles_decide a b charts =
     record {
       exactly = (cycle_differs a b charts, λ d. alone_cycle a b charts d.word d.stem d.loops d.alone);
-      contained = none_contains a b charts;
+      included = none_includes a b charts;
     }
 
 pub measures_tell : MeasuresTell
 measures_tell a b charts node measure count f =
-    let none = falling_none (ranked_graph a b) node measure count f in (none, none_contains a b charts none)
+    let none = falling_none (ranked_graph a b) node measure count f in (none, none_includes a b charts none)
 
 pub ranked_complements : RankedComplements
 ranked_complements a b charts =

@@ -1,17 +1,16 @@
 -- Along a repeating word the levels of the subset construction repeat too, since there are few sets. So all runs over the
 -- word are walks of a finite graph, whose nodes are states at the positions up to the repetition.
-use Rattle.std.proofs.Common.{◌≡◌, ℕ, zero, suc, ◌+◌, ◌-◌, ◌*◌, ◌/◌, ◌%◌, ◌^◌, ◌<◌, ◌≤◌, Bool, true, false, ◌&&◌, ◌⊎◌, inl, inr, eqb, ltb, List, length, get_or, refl, sym, ap, subst, ◌∙◌, ⊎_elim, arith}
+use Rattle.std.proofs.Common.{◌≡◌, ℕ, zero, suc, ◌-◌, ◌*◌, ◌/◌, ◌%◌, ◌^◌, ◌<◌, ◌≤◌, Bool, true, false, ◌&&◌, ◌⊎◌, inl, inr, eqb, ltb, List, length, get_or, refl, sym, ap, subst, ◌∙◌, ⊎_elim, arith}
 use Rattle.std.proofs.lemmas.Bool.{and_from, and_parts, cases_lt, eq-eqb, eqb-true, false_from_ne_true, lt-ltb, ltb-true}
-use Rattle.std.proofs.lemmas.Nat.{div-mul-add, mod-mul-add}
 use Rattle.chart.specs.Automata.{Automaton, Limits}
 use Rattle.graph.specs.Graphs.{Graph}
 use Rattle.graph.specs.Walks.{Reach, begin, go, OnCycle, MarkedCycle}
 use Rattle.graph.proofs.Loops.{loop_cycle}
-use Rattle.graph.proofs.Rounds.{GoesAlong, cycle_round}
+use Rattle.graph.proofs.Rounds.{GoesAlong, cycle_round, spot, spot_laps, spot_place, spot_state}
 use Rattle.lasso.specs.Positions.{place, after}
 use Rattle.lasso.specs.Words.{letter, Takes}
 use Rattle.lasso.proofs.Agreeing.{takes_accepts}
-use Rattle.lasso.proofs.Places.{after_last, after_next, place_apart, place_below, place_first, place_next, place_unrolled, place_zero, after_below, laps_joined}
+use Rattle.lasso.proofs.Places.{after_last, after_next, place_below, place_first, place_next, place_unrolled, place_zero, after_below, laps_joined}
 use Rattle.lasso.proofs.Returning.{run_below, runs_return}
 use Rattle.numbers.proofs.Returning.{returns}
 use Rattle.rank.specs.Layout.{bits, fields, flag}
@@ -41,10 +40,6 @@ folded b word s e =
           λ v l w. (ltb (v / 32) e && level b word (v / 32) (v % 32))
           && (eqb l (word (v / 32)) && (eqb (w / 32) (after e s (v / 32)) && b.step (v % 32) l (w % 32)));
     }
-
--- the node of state q at position k
-abbrev pub spot : ℕ → ℕ → ℕ → ℕ → ℕ
-spot s e k q = place e s k * 32 + q
 
 -- what an edge is
 pub record Fold (b : Automaton) (word : ℕ → ℕ) (s e v l w : ℕ) : Type 0 where
@@ -120,17 +115,17 @@ module _ (b : Automaton) (rule : Limits b) (word : List ℕ) (stem s e : ℕ) (h
 
   -- a step of the automaton is an edge
   pub spot_edge : (k p q : ℕ) → level b (letter word stem) k p ≡ true → b.step p (letter word stem k) q ≡ true
-      → (letter word stem k < b.letters) × ((folded b (letter word stem) s e).edge (spot s e k p) (letter word stem k) (spot s e (suc k) q) ≡ true)
+      → (letter word stem k < b.letters) × ((folded b (letter word stem) s e).edge (spot e s k p) (letter word stem k) (spot e s (suc k) q) ≡ true)
   spot_edge k p q at step =
-      let v = spot s e k p in
-      let w = spot s e (suc k) q in
+      let v = spot e s k p in
+      let w = spot e s (suc k) q in
       let known = rule.steps p (letter word stem k) q step in
       let p_small : p < 32 = omega (arith, known.0, rule.size.few_states) in
       let q_small : q < 32 = omega (arith, known.2, rule.size.few_states) in
-      let v_place : v / 32 ≡ place e s k = div-mul-add (place e s k) 32 p p_small in
-      let w_place : w / 32 ≡ place e s (suc k) = div-mul-add (place e s (suc k)) 32 q q_small in
-      let v_state : v % 32 ≡ p = mod-mul-add (place e s k) 32 p p_small in
-      let w_state : w % 32 ≡ q = mod-mul-add (place e s (suc k)) 32 q q_small in (
+      let v_place : v / 32 ≡ place e s k = spot_place e s k p p_small in
+      let w_place : w / 32 ≡ place e s (suc k) = spot_place e s (suc k) q q_small in
+      let v_state : v % 32 ≡ p = spot_state e s k p p_small in
+      let w_state : w % 32 ≡ q = spot_state e s (suc k) q q_small in (
         known.1,
         fold_test b (letter word stem) s e v (letter word stem k) w (record {
           inside = omega (arith, v_place, place_below e s k r.early);
@@ -142,14 +137,14 @@ module _ (b : Automaton) (rule : Limits b) (word : List ℕ) (stem s e : ℕ) (h
       )
 
   -- so a state of a level is reached at its position
-  spot_start : (q : ℕ) → b.start q ≡ true → (folded b (letter word stem) s e).start (spot s e 0 q) ≡ true
+  spot_start : (q : ℕ) → b.start q ≡ true → (folded b (letter word stem) s e).start (spot e s 0 q) ≡ true
   spot_start q at =
       let small : q < 32 = omega (arith, rule.starts q at, rule.size.few_states) in
-      let v_place : spot s e 0 q / 32 ≡ 0 = div-mul-add (place e s 0) 32 q small ∙ place_zero e s r.early in
-      and_from (eqb (spot s e 0 q / 32) 0) (b.start (spot s e 0 q % 32)) (eq-eqb (spot s e 0 q / 32) 0 v_place)
-      (rw (mod-mul-add (place e s 0) 32 q small) at)
+      let v_place : spot e s 0 q / 32 ≡ 0 = spot_place e s 0 q small ∙ place_zero e s r.early in
+      and_from (eqb (spot e s 0 q / 32) 0) (b.start (spot e s 0 q % 32)) (eq-eqb (spot e s 0 q / 32) 0 v_place)
+      (rw (spot_state e s 0 q small) at)
 
-  pub spot_reached : (k q : ℕ) → level b (letter word stem) k q ≡ true → Reach (folded b (letter word stem) s e) (spot s e k q)
+  pub spot_reached : (k q : ℕ) → level b (letter word stem) k q ≡ true → Reach (folded b (letter word stem) s e) (spot e s k q)
   spot_reached zero q at = begin (spot_start q at)
   spot_reached (suc k) q at =
       let p = level_before b rule (letter word stem) k q at in
@@ -161,7 +156,7 @@ module _ (b : Automaton) (rule : Limits b) (word : List ℕ) (stem s e : ℕ) (h
   cycle_takes v m c =
       let g = folded b (letter word stem) s e in
       let f = fold_holds b (letter word stem) s e v c.1.0 c.0 c.1.2 in
-      let here : spot s e (v / 32) (v % 32) ≡ v = omega (arith, place_first e s (v / 32) f.inside) in
+      let here : spot e s (v / 32) (v % 32) ≡ v = omega (arith, place_first e s (v / 32) f.inside) in
       let reached : Reach g v = subst (Reach g) here (spot_reached (v / 32) (v % 32) f.level) in
       let t = cycle_round g b (letter word stem) e s r.early (goes_along b (letter word stem) s e)
       (v, record { reached = reached; marked = m; cycle = c }) in
@@ -185,18 +180,18 @@ module _ (b : Automaton) (rule : Limits b) (word : List ℕ) (stem s e : ℕ) (h
       let again = runs_return b (letter word stem) rule a s (e - s) (omega (arith, r.early)) in
       let k = again.passes.0 in
       let small : (i : ℕ) → a.run i < 32 = λ i. omega (arith, run_below b (letter word stem) rule a i, rule.size.few_states) in
-      let closes : place e s again.from ≡ place e s again.to =
-      sym (place_apart e s again.from again.to again.apart.0 r.early again.late (omega (arith, again.goes)) again.apart.1) in
       loop_cycle (folded b (letter word stem) s e) (record {
-        at = λ i. spot s e i (a.run i);
+        at = λ i. spot e s i (a.run i);
         by = letter word stem;
         from = again.from;
         to = again.to;
         starts = spot_start (a.run 0) a.starts;
         edges = λ i low. spot_edge i (a.run i) (a.run (suc i)) (level_run b rule (letter word stem) a i) (a.steps i);
         goes = again.goes;
-        closes = omega (arith, closes, again.closes);
-        passes = (k, again.passes.1, again.passes.2, rw (mod-mul-add (place e s k) 32 (a.run k) (small k)) again.passes.3);
+        closes =
+            spot_laps e s again.from again.to again.apart.0 (a.run again.from) (a.run again.to) r.early again.late (omega (arith, again.goes)) again.apart.1
+            again.closes;
+        passes = (k, again.passes.1, again.passes.2, rw (spot_state e s k (a.run k) (small k)) again.passes.3);
       })
 
   -- so the word is taken exactly if a marked node lies on a cycle, and that is a test

@@ -2,21 +2,21 @@
 -- a run and are even at marked states, and no run has an even one for long. They are the ranks of the folded graph's nodes.
 use Rattle.std.proofs.Common.{◌≡◌, ℕ, suc, ◌+◌, ◌-◌, ◌*◌, ◌/◌, ◌%◌, ◌<◌, ◌≤◌, true, cond, ltb, List, length, ⊎_elim, refl, sym, subst, arith}
 use Rattle.std.proofs.lemmas.Bool.{both_ways, cases_lt, cond-false, cond-true, le-ltb, lt-ltb}
-use Rattle.std.proofs.lemmas.Nat.{mod-mul-add}
 use Rattle.chart.specs.Automata.{Automaton, Limits}
 use Rattle.graph.specs.Graphs.{Graph}
 use Rattle.graph.specs.Walks.{OnCycle, Path}
 use Rattle.graph.proofs.Loops.{Goes, path_along}
-use Rattle.lasso.specs.Positions.{place}
+use Rattle.graph.proofs.Rounds.{spot, spot_state}
 use Rattle.lasso.specs.Words.{letter, Takes}
 use Rattle.lasso.proofs.Places.{place_below}
+use Rattle.numbers.proofs.Counts.{count_pigeon}
 use Rattle.numbers.proofs.Pigeonhole.{pigeonhole}
 use Rattle.rank.specs.Rules.{is_even}
 use Rattle.rank.specs.Subsets.{level, size}
-use Rattle.rank.proofs.Folding.{Repetition, folded, fold_holds, inside, spot, spot_edge, cycle_takes}
+use Rattle.rank.proofs.Folding.{Repetition, folded, fold_holds, inside, spot_edge, cycle_takes}
 use Rattle.rank.proofs.Levels.{Levelled, Crowd}
 use Rattle.rank.proofs.Ranking.{Ranking, ranking}
-use Rattle.rank.proofs.Subsets.{count_pigeon, level_below}
+use Rattle.rank.proofs.Subsets.{level_below}
 
 -- a part of a run, from position i to j, of even ranks
 pub record EvenRun (b : Automaton) (word : ℕ → ℕ) (rank : ℕ → ℕ → ℕ) (i j : ℕ) : Type 0 where
@@ -87,7 +87,7 @@ module _ (b : Automaton) (rule : Limits b) (word : List ℕ) (stem s e : ℕ) (h
   width = size b (level b (letter word stem) s)
 
   abbrev node : ℕ → ℕ → ℕ
-  node = spot s e
+  node = spot e s
 
   levelled : Levelled graph most (λ v. v / 32) e s
   levelled =
@@ -147,7 +147,7 @@ module _ (b : Automaton) (rule : Limits b) (word : List ℕ) (stem s e : ℕ) (h
             ranks.falls (node k p) (node (suc k) q) (letter word stem k, g.0, g.1);
         even =
             λ k q at m. let small : q < 32 = omega (arith, level_below b rule (letter word stem) k q at, rule.size.few_states) in
-            ranks.even (node k q) (node_below k q at) (rw (mod-mul-add (place e s k) 32 q small) m);
+            ranks.even (node k q) (node_below k q at) (rw (spot_state e s k q small) m);
         patience = most;
         odd = run_cycles;
       }

@@ -4,16 +4,15 @@
 -- even. After that the owed set is empty at some position, and again at a later one. If the rank had not fallen by then, the
 -- run's state would be owed there. So past marked states without end the rank would fall without end.
 use Rattle.std.proofs.Common.{◌≡◌, ℕ, zero, suc, ◌+◌, ◌-◌, ◌<◌, ◌≤◌, Bool, true, false, Some, ◌∙◌, sym, subst, ap, ⊎_elim, arith}
-use Rattle.std.proofs.lemmas.Bool.{and_parts, both_ways, cases_Bool, cases_lt}
+use Rattle.std.proofs.lemmas.Bool.{both_ways, cases_Bool, cases_lt}
 use Rattle.chart.specs.Automata.{Automaton, Limits}
 use Rattle.lasso.specs.Words.{Accepts}
 use Rattle.rank.specs.Complement.{AcceptedAlone, ranked}
 use Rattle.rank.specs.Layout.{parts}
 use Rattle.rank.specs.Nodes.{Node}
-use Rattle.rank.specs.Ranked.{is_number}
-use Rattle.rank.specs.Rules.{is_even, has_even, may_have, is_empty, is_start, is_marked}
-use Rattle.rank.proofs.Laws.{empty_none, marked_even, next_ranked, first_ranked, marked_holds, owed_all, owed_next, turn_ends, turn_waits}
-use Rattle.rank.proofs.Tests.{Start, Step, Edges, start_holds, edge_holds, number_holds}
+use Rattle.rank.specs.Rules.{is_even, has_even, may_have, is_empty}
+use Rattle.rank.proofs.Laws.{empty_none, marked_even, next_ranked, first_ranked, owed_all, owed_next, turn_ends, turn_waits}
+use Rattle.rank.proofs.Tests.{Start, Step, Edges, edge_holds, first_holds, mark_holds, number_holds}
 
 -- a sequence that is false at i and true at a later j rises somewhere between
 rises : (f : ℕ → Bool) (d i j : ℕ) → i + d ≡ j → f i ≡ false → f j ≡ true → (k : ℕ) × (i ≤ k) × (f k ≡ false) × (f (suc k) ≡ true)
@@ -35,7 +34,7 @@ module _ (a b : Automaton) (word : ℕ → ℕ) (w : Accepts (ranked a b) word) 
 
   start : Start a b (node 0)
   unfolding node
-  start = start_holds a b (node 0) (and_parts (is_number a b (w.run 0)) (is_start a b (node 0)) w.starts).1
+  start = first_holds a b (w.run 0) w.starts
 
   -- where a marked node comes at or after position k
   spot : ℕ → ℕ
@@ -47,9 +46,7 @@ module _ (a b : Automaton) (word : ℕ → ℕ) (w : Accepts (ranked a b) word) 
 
   spot_marked : (k : ℕ) → ((node (spot k)).turn ≡ true) × (is_empty b (node (spot k)).owed ≡ true)
   unfolding node spot
-  spot_marked k =
-      let v = w.run (w.again k).0 in
-      marked_holds b (parts v) (and_parts (is_number a b v) (is_marked b (parts v)) (w.again k).2).1
+  spot_marked k = mark_holds a b (w.run (w.again k).0) (w.again k).2
 
   -- between two marked nodes the turn rises
   duty_again : (k : ℕ) → (i : ℕ) × (k ≤ i) × (a.mark (node i).duty ≡ true)

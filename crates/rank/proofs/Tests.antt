@@ -10,6 +10,7 @@ use Rattle.rank.specs.Layout.{parts, number}
 use Rattle.rank.specs.Nodes.{Node}
 use Rattle.rank.specs.Ranked.{is_number, ranked_graph}
 use Rattle.rank.proofs.Implied.{implied, implied_from}
+use Rattle.rank.proofs.Laws.{marked_from, marked_holds}
 use Rattle.rank.specs.Rules.{has_even, may_have, is_empty, is_first_rank, is_next_rank, next_owed, next_turn, is_node, is_start, is_step, is_marked}
 
 -- the first node of a walk
@@ -81,7 +82,7 @@ module _ (a b : Automaton) where
   pub marked_number : (v : ℕ) → (ranked_graph a b).marked v ≡ true → is_number a b v ≡ true
   marked_number v e = (and_parts (is_number a b v) (is_marked b (parts v)) e).0
 
-  pub start_holds : (x : Node) → is_start a b x ≡ true → Start a b x
+  start_holds : (x : Node) → is_start a b x ≡ true → Start a b x
   start_holds x e =
       let ranks = all_below b.states (λ q. is_first_rank b q (x.rank q)) in
       let p = and_parts (a.start x.duty) (ranks && (is_empty b x.owed && not x.turn)) e in
@@ -94,12 +95,24 @@ module _ (a b : Automaton) where
         turn = not-true x.turn r.1;
       }
 
-  pub start_test : (x : Node) → Start a b x → is_start a b x ≡ true
+  start_test : (x : Node) → Start a b x → is_start a b x ≡ true
   start_test x s =
       let ranks = all_below b.states (λ q. is_first_rank b q (x.rank q)) in
       and_from (a.start x.duty) (ranks && (is_empty b x.owed && not x.turn)) s.duty
       (and_from ranks (is_empty b x.owed && not x.turn) (all_from b.states (λ q. is_first_rank b q (x.rank q)) s.ranks)
       (and_from (is_empty b x.owed) (not x.turn) s.owed (not_from_false x.turn s.turn)))
+
+  pub first_holds : (v : ℕ) → (ranked_graph a b).start v ≡ true → Start a b (parts v)
+  first_holds v e = start_holds (parts v) (and_parts (is_number a b v) (is_start a b (parts v)) e).1
+
+  pub first_test : (v : ℕ) → is_number a b v ≡ true → Start a b (parts v) → (ranked_graph a b).start v ≡ true
+  first_test v n s = and_from (is_number a b v) (is_start a b (parts v)) n (start_test (parts v) s)
+
+  pub mark_holds : (v : ℕ) → (ranked_graph a b).marked v ≡ true → ((parts v).turn ≡ true) × (is_empty b (parts v).owed ≡ true)
+  mark_holds v e = marked_holds b (parts v) (and_parts (is_number a b v) (is_marked b (parts v)) e).1
+
+  pub mark_test : (v : ℕ) → is_number a b v ≡ true → (parts v).turn ≡ true → is_empty b (parts v).owed ≡ true → (ranked_graph a b).marked v ≡ true
+  mark_test v n t o = and_from (is_number a b v) (is_marked b (parts v)) n (marked_from b (parts v) t o)
 
   step_holds : (x : Node) (l : ℕ) (y : Node) → is_step a b x l y ≡ true → Step a b x l y
   step_holds x l y e =

@@ -1,4 +1,4 @@
--- The ranked graph as an automaton: of the words that the duty accepts it accepts those that the rule does not.
+-- The ranked graph as an automaton, and the words that it accepts: they tell the duty from the rule.
 use Rattle.std.specs.Prelude.{◌≡◌, ℕ, suc, ◌*◌, ◌^◌, ◌<◌, ◌≤◌, Some, List, length}
 use Rattle.chart.specs.Automata.{Automaton}
 use Rattle.lasso.specs.Words.{letter, Accepts}
@@ -27,11 +27,12 @@ pub record AcceptedAlone (a b : Automaton) (word : ℕ → ℕ) : Type 0 where
 -- construction.
 pub record AcceptedLow (a b : Automaton) (word : ℕ → ℕ) : Type 0 where
   pub walk : Accepts (ranked a b) word
+  -- where that level is
   pub position : ℕ
   pub low :
       (k q r : ℕ) → (parts (walk.run (suc k))).rank q ≡ Some r → r ≤ 2 * size b (level b word position)
 
--- It accepts no other endless words, repeating or not, and of the repeating ones all.
+-- It accepts only endless words, repeating or not, that a accepts and b does not, and all repeating words of this kind.
 pub record Complements (a b : Automaton) : Type 0 where
   pub only : (word : ℕ → ℕ) → Accepts (ranked a b) word → AcceptedAlone a b word
   pub every :

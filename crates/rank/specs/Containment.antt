@@ -33,7 +33,7 @@ pub record Differs (a b : Automaton) : Type 0 where
 -- by the rule; and if none does, the rule takes every repeating word that the duty takes.
 pub record ToldByCycles (a b : Automaton) : Type 0 where
   pub exactly : MarkedCycle (ranked_graph a b) ↔ Differs a b
-  pub contained : (MarkedCycle (ranked_graph a b) → ⊥) → Included a b
+  pub included : (MarkedCycle (ranked_graph a b) → ⊥) → Included a b
 
 abbrev pub CyclesDecide : Type 0
 CyclesDecide = (a b : Automaton) → Charts a b → ToldByCycles a b

@@ -1,6 +1,7 @@
 -- How a node is told by one number: the duty's state in bits 0 to 4, the turn in bit 5, the owed set in bits 6 to 11, and
 -- from bit 12 on four bits for each state of the rule, which hold its rank and one more, or 0 for none.
-use Rattle.std.specs.Prelude.{ℕ, zero, suc, ◌+◌, ◌*◌, ◌/◌, ◌%◌, ◌^◌, Bool, cond, ◌&&◌, Some, None, Option, ◌==◌, nat_lt}
+use Rattle.std.specs.Prelude.{ℕ, zero, suc, ◌+◌, ◌*◌, ◌/◌, ◌%◌, ◌^◌, Bool, cond, ◌&&◌, Some, None, Option, nat_lt}
+use Rattle.chart.specs.Kinds.{bit}
 use Rattle.rank.specs.Nodes.{Node}
 
 -- so many bits of v, from bit `from` on
@@ -17,8 +18,8 @@ abbrev pub parts : ℕ → Node
 parts v =
     record {
       duty = bits v 0 5;
-      turn = bits v 5 1 == 1;
-      owed = λ q. nat_lt q 6 && bits v (6 + q) 1 == 1;
+      turn = bit v 5;
+      owed = λ q. nat_lt q 6 && bit v (6 + q);
       rank = λ q. rank_held (bits v (12 + 4 * q) 4);
     }
 

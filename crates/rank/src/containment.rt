@@ -24,7 +24,8 @@ pub fn taking_is_decided()
     ensures { TakingIsDecided }
 {}
 
-// As an automaton the graph accepts what the duty accepts and the rule does not.
+// As an automaton the graph accepts only endless words that the duty accepts and the rule does not, and all of these that
+// repeat.
 pub fn ranked_complements()
     ensures { RankedComplements }
 {}
