@@ -111,7 +111,7 @@ module _ (n : ℕ) (x : Node) (fits : Fits n x) where
       λ q. ⊎_elim (owed_same q) (λ h. owed_beyond q h ∙ sym (none_owed q h)) (cases_lt q n) in
       λ j. record { duty = duty_same j; rank = λ q. rank q j; owed = λ q. owed q j; turn = turn_same j }
 
--- a rank is none, or a number of which something is known
+-- a rank that is no number is none, and a state may have a rank if it may have the number that the rank is
 no_value : (o : Option ℕ) → ((r : ℕ) → o ≡ Some r → ⊥) → o ≡ None
 no_value None none = refl
 no_value (Some r) none = absurd (none r refl)
