@@ -10,6 +10,8 @@ use Rattle.fault.specs.declared.SearchFault.{SearchFault}
 use Rattle.fault.specs.declared.SearchFault.TheVariants.{Table, Full}
 use Rattle.fault.specs.declared.MemberFault.{MemberFault}
 use Rattle.fault.specs.declared.MemberFault.TheVariants.{Word, Search}
+use Rattle.fault.specs.declared.BenchFault.{BenchFault}
+use Rattle.fault.specs.declared.BenchFault.TheVariants as bench
 
 -- a refusal as its reader sees it: a number, and a line or place, which is 0 where none is told
 pub record Refusal : Type 0 where
@@ -36,3 +38,9 @@ survey_refusal Full = record { number = 13; place = 0 }
 abbrev pub member_refusal : MemberFault → Refusal
 member_refusal (Word e) = lasso_refusal e
 member_refusal (Search e) = survey_refusal e
+
+abbrev pub bench_refusal : BenchFault → Refusal
+bench_refusal (bench.Chart e) = refusal e
+bench_refusal bench.Letters = record { number = 5; place = 0 }
+bench_refusal bench.States = record { number = 6; place = 0 }
+bench_refusal (bench.Search e) = survey_refusal e

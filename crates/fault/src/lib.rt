@@ -2,9 +2,10 @@
 #![tactic(auto)]
 
 ghost use Rattle.std.specs.Prelude.{◌≡◌};
-ghost use Rattle.fault.specs.Refusals.{Refusal, text_refusal, refusal, lasso_refusal, survey_refusal, member_refusal};
+ghost use Rattle.fault.specs.Refusals.{Refusal, text_refusal, refusal, lasso_refusal, survey_refusal, member_refusal, bench_refusal};
 ghost use Rattle.fault.specs.declared.ChartFault.TheVariants.{Text};
 ghost use Rattle.fault.specs.declared.MemberFault.TheVariants.{Word, Search};
+ghost use Rattle.fault.specs.declared.BenchFault.TheVariants as bench;
 
 // A fault of any layer, as its reader sees it.
 pub trait Fault {
@@ -174,6 +175,56 @@ impl Fault for MemberFault {
         match *self {
             MemberFault::Word(e) => e.place(),
             MemberFault::Search(e) => e.place(),
+        }
+    }
+}
+
+// A bench, on which a duty is held against a rule, is refused.
+#[derive(Clone, Copy, PartialEq, Eq, Debug)]
+pub enum BenchFault {
+    // one of the two charts is
+    Chart(ChartFault),
+    // the charts differ in letters
+    Letters,
+    // the rule has more than 6 states
+    States,
+    // the search of their ranked graph is; by `Table` also where the work table does not have exactly the room's records
+    Search(SearchFault),
+}
+
+impl From<ChartFault> for BenchFault {
+    ghost from_gives = { λ e r. r ≡ bench.Chart e };
+
+    fn from(e: ChartFault) -> BenchFault {
+        BenchFault::Chart(e)
+    }
+}
+
+impl From<SearchFault> for BenchFault {
+    ghost from_gives = { λ e r. r ≡ bench.Search e };
+
+    fn from(e: SearchFault) -> BenchFault {
+        BenchFault::Search(e)
+    }
+}
+
+impl Fault for BenchFault {
+    ghost refusal = { bench_refusal };
+
+    fn number(&self) -> u8 {
+        match *self {
+            BenchFault::Chart(e) => e.number(),
+            BenchFault::Letters => 5,
+            BenchFault::States => 6,
+            BenchFault::Search(e) => e.number(),
+        }
+    }
+
+    fn place(&self) -> usize {
+        match *self {
+            BenchFault::Chart(e) => e.place(),
+            BenchFault::Letters | BenchFault::States => 0,
+            BenchFault::Search(e) => e.place(),
         }
     }
 }

@@ -33,6 +33,13 @@ pub record Recurring (g : Graph) (v : ℕ) : Type 0 where
 abbrev pub MarkedCycle : Graph → Type 0
 MarkedCycle g = (v : ℕ) × Recurring g v
 
+-- n nodes are reachable: the first n of these are different ones, and there is no other
+pub record Count (g : Graph) (n : ℕ) : Type 0 where
+  pub at : ℕ → ℕ
+  pub apart : (i j : ℕ) → i < n → j < n → at i ≡ at j → i ≡ j
+  pub reached : (i : ℕ) → i < n → Reach g (at i)
+  pub whole : (v : ℕ) → Reach g v → (i : ℕ) × (i < n) × (at i ≡ v)
+
 -- more than n different nodes are reachable
 pub record More (g : Graph) (n : ℕ) : Type 0 where
   pub at : ℕ → ℕ
