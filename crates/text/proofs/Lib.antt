@@ -1,4 +1,3 @@
-pub mod Bitwise
 pub mod Cells
 pub mod Contexts
 pub mod Cuts

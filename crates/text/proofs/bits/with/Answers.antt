@@ -2,7 +2,7 @@ use Rattle.std.proofs.Common.{ap, ◌∙◌}
 use lib.Bits.{bit_or}
 use Rattle.chart.specs.Kinds.{bit}
 use Rattle.std.proofs.lemmas.Nat.{one_shl}
-use Rattle.text.proofs.Bitwise.{bit_with}
+use Rattle.chart.proofs.Bits.{bit_with}
 use Rattle.text.proofs.bits.with.Goals as goal
 
 pub returns : goal.returns

@@ -1,0 +1,4 @@
+// The ranked graph of a duty and a rule as a map.
+#![tactic(auto)]
+
+mod sets;

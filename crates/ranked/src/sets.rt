@@ -1,0 +1,34 @@
+// Sets of small numbers as the bits of a word, bit 0 the lowest.
+ghost use Rattle.std.specs.Prelude.{ℕ, ◌^◌, ◌<◌, ◌≤◌};
+ghost use Rattle.chart.specs.Kinds.{bit};
+ghost use Rattle.graph.specs.Least.{Least};
+
+// The set of the numbers below n that pass.
+pub(crate) fn members<F: Fn(u8) -> bool>(n: u8, test: F) -> u32
+    requires callable { F.IsAlwaysCallable test }
+    requires few { n ≤ 32 }
+    ensures small { result < 2 ^ n }
+    ensures told { (q : ℕ) → q < n → F.post test q (bit result q) }
+{
+    let mut set = 0u32;
+    for q in 0..n {
+        if test(q) {
+            set |= 1u32 << q;
+        }
+    }
+    set
+}
+
+// The least member that is not below `from`.
+pub(crate) fn least_member(set: u32, from: u32) -> Option<u32>
+    ensures { Least (bit set) from result }
+{
+    if from >= 32 {
+        return None;
+    }
+    let rest = set >> from;
+    if rest == 0 {
+        return None;
+    }
+    Some(from + rest.trailing_zeros())
+}
