@@ -2,7 +2,7 @@
 use Rattle.std.proofs.Common.{◌≡◌, ℕ, zero, suc, ◌+◌, ◌-◌, ◌/◌, ◌%◌, ◌^◌, ◌<◌, ◌≤◌, ◌≢◌, ◌||◌, Bool, true, false, eqb, Some, None, sym, ap, ◌∙◌, subst, ⊎_elim, refl, add-one, w32, arith}
 use Rattle.std.proofs.Math.Nat.{pow-suc}
 use Rattle.std.proofs.Math.Pow.{pow_mono}
-use Rattle.std.proofs.lemmas.Bool.{both_ways, cases_Bool, cases_lt, eq-eqb, eqb-true, ne_eqb, or_left, true≢false}
+use Rattle.std.proofs.lemmas.Bool.{both_ways, cases_Bool, cases_lt, eq-eqb, eqb-true, false_from_ne_true, ne_eqb, or_left, true≢false}
 use Rattle.std.proofs.lemmas.Nat.{or_lt, shr-shr, pow_pos}
 use Rattle.std.proofs.lemmas.Nat.Bits.{bit_at-trailing_zeros, bit_at-zero}
 use lib.Bits.{bit_or}
@@ -20,11 +20,18 @@ pub member_below : (s n q : ℕ) → s < 2 ^ n → bit s q ≡ true → q < n
 member_below s n q h m =
     ⊎_elim (λ (low : q < n). low) (λ high. absurd (both_ways (bit s q) (beyond_false s n q h high) m)) (cases_lt q n)
 
+-- what answers as a test below 32, where nothing else passes the test, answers so everywhere
+pub everywhere : (s : ℕ) (t : ℕ → Bool) → s < 2 ^ 32 → ((q : ℕ) → q < 32 → bit s q ≡ t q) → ((q : ℕ) → t q ≡ true → q < 32)
+    → (q : ℕ) → bit s q ≡ t q
+everywhere s t small below passes q =
+    ⊎_elim (below q) (λ (high : 32 ≤ q). beyond_false s 32 q small high ∙ sym (false_from_ne_true (t q) (λ e. omega (arith, passes q e))))
+    (cases_lt q 32)
+
 -- the members of a shifted set
 pub shifted : (s from i : ℕ) → bit (s / 2 ^ from) i ≡ bit s (from + i)
 shifted s from i = ap (λ x. eqb (x % 2) 1) (shr-shr s from i)
 
-none_false : (q : ℕ) → bit 0 q ≡ false
+pub none_false : (q : ℕ) → bit 0 q ≡ false
 none_false q = ap (λ x. eqb x 1) (bit_at-zero q)
 
 -- where the shifted set is empty, no member is left

@@ -1,1 +1,2 @@
-
+pub mod Snapshots
+pub mod Kept

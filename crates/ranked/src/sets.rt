@@ -1,17 +1,15 @@
 // Sets of small numbers as the bits of a word, bit 0 the lowest.
-ghost use Rattle.std.specs.Prelude.{ℕ, ◌^◌, ◌<◌, ◌≤◌};
+ghost use Rattle.std.specs.Prelude.{ℕ, ◌<◌};
 ghost use Rattle.chart.specs.Kinds.{bit};
 ghost use Rattle.graph.specs.Least.{Least};
 
-// The set of the numbers below n that pass.
-pub(crate) fn members<F: Fn(u8) -> bool>(n: u8, test: F) -> u32
-    requires callable { F.IsAlwaysCallable test }
-    requires few { n ≤ 32 }
-    ensures small { result < 2 ^ n }
-    ensures told { (q : ℕ) → q < n → F.post test q (bit result q) }
+// The set of the numbers below 32 that pass.
+pub(crate) fn members<F: Fn(u8) -> bool>(test: F) -> u32
+    requires { F.IsAlwaysCallable test }
+    ensures { (q : ℕ) → q < 32 → F.post test q (bit result q) }
 {
     let mut set = 0u32;
-    for q in 0..n {
+    for q in 0..32u8 {
         if test(q) {
             set |= 1u32 << q;
         }
