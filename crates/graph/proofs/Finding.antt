@@ -1,6 +1,9 @@
--- The first number of a range that a test finds is the least that passes it, where none beyond the range does.
-use Rattle.std.proofs.Common.{◌≡◌, ℕ, ◌<◌, ◌≤◌, ◌≢◌, Bool, true, false, List, Some, None, Option, MatchOption}
+-- What the least number that passes a test tells, and how it is found.
+use Rattle.std.proofs.Common.{◌≡◌, ℕ, ◌<◌, ◌≤◌, ◌≢◌, Bool, true, false, List, Some, None, Option, MatchOption, eqb, sym, ◌∙◌, subst, ⊎_elim, arith}
+use mathlib.Core.Path.{fun_ext}
 use Rattle.std.specs.declared.ops.Range.{Range}
+use Rattle.std.specs.Option.{option_eq}
+use Rattle.std.proofs.lemmas.Bool.{cases_eq, eq-eqb, false_from_ne_true, ne_eqb}
 use Rattle.std.specs.Fn.{CalledAt}
 use Rattle.std.specs.Iterator.{YieldsThen}
 use Rattle.std.specs.List.{FoldsTo}
@@ -10,6 +13,19 @@ use denote.Param.Members.{Mut}
 use denote.Ref.{Bor}
 use Rattle.graph.specs.Least.{Least}
 
+-- the least from v on is v exactly if v passes
+pub least_itself : (P : ℕ → Bool) (v : ℕ) (r : Option ℕ) → Least P v r → option_eq eqb r (Some v) ≡ P v
+least_itself P v None none = sym (false_from_ne_true (P v) (none v (omega arith)))
+least_itself P v (Some u) (low, passes, least) =
+    ⊎_elim (λ (e : u ≡ v). eq-eqb u v e ∙ sym (subst (λ x. P x ≡ true) e passes))
+    (λ differ. ne_eqb u v differ ∙ sym (false_from_ne_true (P v) (least v (omega arith) (omega arith))))
+    (cases_eq u v)
+
+-- tests that answer alike have the same least
+pub least_same : (P Q : ℕ → Bool) (from : ℕ) (r : Option ℕ) → ((v : ℕ) → P v ≡ Q v) → Least P from r → Least Q from r
+least_same P Q from r same h = subst (λ (T : ℕ → Bool). Least T from r) (fun_ext same) h
+
+-- The first of a range that a test finds is the least that passes it, where none beyond the range does.
 least_in_range : (P : ℕ → Bool) (from end : ℕ) → ((v : ℕ) → P v ≡ true → v < end) → (r : Option ℕ)
     → MatchOption r ((k : ℕ) → from ≤ k → k < end → P k ≢ true)
     (λ i. (from ≤ i) × (i < end) × (P i ≡ true) × ((k : ℕ) → from ≤ k → k < i → P k ≢ true))

@@ -1,2 +1,7 @@
 pub mod Members
 pub mod Keeping
+pub mod Parted
+pub mod Numerals
+pub mod Uppers
+pub mod Raising
+pub mod Choosing

@@ -1,2 +1,4 @@
 pub mod Snapshots
 pub mod Kept
+pub mod Digits
+pub mod Choices

@@ -1,5 +1,5 @@
 // Sets of small numbers as the bits of a word, bit 0 the lowest.
-ghost use Rattle.std.specs.Prelude.{ℕ, ◌<◌};
+ghost use Rattle.std.specs.Prelude.{◌≡◌, ℕ, ◌<◌};
 ghost use Rattle.chart.specs.Kinds.{bit};
 ghost use Rattle.graph.specs.Least.{Least};
 
@@ -18,7 +18,7 @@ pub(crate) fn members<F: Fn(u8) -> bool>(test: F) -> u32
 }
 
 // The least member that is not below `from`.
-pub(crate) fn least_member(set: u32, from: u32) -> Option<u32>
+pub(crate) fn least_member(set: u32, from: u64) -> Option<u64>
     ensures { Least (bit set) from result }
 {
     if from >= 32 {
@@ -28,5 +28,12 @@ pub(crate) fn least_member(set: u32, from: u32) -> Option<u32>
     if rest == 0 {
         return None;
     }
-    Some(from + rest.trailing_zeros())
+    Some(from + rest.trailing_zeros() as u64)
+}
+
+// Is q a member of the set?
+pub(crate) fn contains(set: u32, q: u64) -> bool
+    ensures { result ≡ bit set q }
+{
+    q < 32 && (set >> q) % 2 == 1
 }

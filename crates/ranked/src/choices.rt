@@ -1,0 +1,156 @@
+// The least of the numbers that are told by a choice for each of their parts. It is found part by part, whatever the
+// number of choices.
+use crate::sets::{contains, least_member, members};
+
+#[derive(Clone, Copy)]
+pub(crate) struct Choices {
+    // of each state of the rule the set of what its four bits may hold: its rank and one more, or 0
+    pub(crate) held: [u16; 6],
+    // the states of the rule that are owed if their rank is even
+    pub(crate) owing: u32,
+    pub(crate) turn: bool,
+    // the states that the duty may be in
+    pub(crate) duty: u32,
+}
+
+impl Choices {
+    ghost use Rattle.std.specs.Prelude.{◌≡◌, ℕ, suc, ◌*◌, ◌%◌, ◌^◌, ◌<◌, ◌&&◌, slice_index};
+    ghost use Rattle.chart.specs.Kinds.{bit};
+    ghost use Rattle.graph.specs.Least.{Least};
+    ghost use Rattle.ranked.specs.Digits.{digit, made};
+    ghost use Rattle.ranked.specs.Choices.{owed, upper, rest, chosen};
+
+    // Of the ranks of the states below q, `best` goes with the digit of state q of `from` if that digit is in its set.
+    fn least_below(self, q: u8, from: u64, best: Option<u64>) -> Option<u64>
+        requires state { q < 6 }
+        requires best { Least (made self.held q) (from % 2 ^ (4 * q)) best }
+        ensures { Least (λ x. bit (slice_index self.held q) (digit from q) && made self.held q x) (from % 2 ^ (4 * q)) result }
+    {
+        if contains(self.held[q as usize] as u32, digit(from, q)) {
+            best
+        } else {
+            None
+        }
+    }
+
+    // The least ranks of the states up to q that are not below those of `from`: `best` and `low` are the least ranks of the
+    // states below q that are not below those of `from`, and that there are.
+    fn raise(self, q: u8, from: u64, best: Option<u64>, low: Option<u64>) -> Option<u64>
+        requires state { q < 6 }
+        requires best { Least (made self.held q) (from % 2 ^ (4 * q)) best }
+        requires low { Least (made self.held q) 0 low }
+        ensures { Least (made self.held (suc q)) (from % 2 ^ (4 * suc q)) result }
+    {
+        let set = self.held[q as usize] as u32;
+        let digit = digit(from, q);
+        if let Some(rest) = self.least_below(q, from, best) {
+            return Some(joined(digit, q, rest));
+        }
+        let next = least_member(set, digit + 1)?;
+        let rest = low?;
+        Some(joined(next, q, rest))
+    }
+
+    // The least ranks that are not below `from`.
+    fn least_ranks(self, from: u64) -> Option<u64>
+        ensures { Least (made self.held 6) from result }
+    {
+        if from >= 1 << 24 {
+            return None;
+        }
+        let mut best = Some(0u64);
+        let mut low = Some(0u64);
+        for q in 0..6u8 {
+            best = self.raise(q, from, best, low);
+            low = self.raise(q, 0, low, low);
+        }
+        best
+    }
+
+    // May the states have these ranks?
+    fn admits(self, ranks: u64) -> bool
+        ensures { result ≡ made self.held 6 ranks }
+    {
+        self.least_ranks(ranks) == Some(ranks)
+    }
+
+    // The owed set that goes with the ranks.
+    fn owed(self, ranks: u64) -> u64
+        ensures { result ≡ owed self ranks }
+    {
+        let mut owed = 0u64;
+        for q in 0..6u8 {
+            owed += flag_at(digit(ranks, q) % 2 == 1 && contains(self.owing, q as u64), q);
+        }
+        owed
+    }
+
+    // The owed set and the turn that go with the ranks.
+    fn upper(self, ranks: u64) -> u64
+        ensures { result ≡ upper self ranks }
+    {
+        self.owed(ranks) * 64 + flag_at(self.turn, 5)
+    }
+
+    // The least of what may stand below the ranks that is not below `from`.
+    fn least_rest(self, ranks: u64, from: u64) -> Option<u64>
+        ensures { Least (rest self ranks) from result }
+    {
+        let upper = self.upper(ranks);
+        let duty = least_member(self.duty, from.saturating_sub(upper))?;
+        Some(upper + duty)
+    }
+
+    // The same, if the states may have the ranks.
+    fn least_here(self, ranks: u64, from: u64) -> Option<u64>
+        ensures { Least (λ x. made self.held 6 ranks && rest self ranks x) from result }
+    {
+        if self.admits(ranks) {
+            self.least_rest(ranks, from)
+        } else {
+            None
+        }
+    }
+
+    // The least that is not below `from`.
+    pub(crate) fn least(self, from: u64) -> Option<u64>
+        ensures { Least (chosen self) from result }
+    {
+        let top = from / 4096;
+        if let Some(rest) = self.least_here(top, from % 4096) {
+            return Some(top * 4096 + rest);
+        }
+        let next = self.least_ranks(top + 1)?;
+        let rest = self.least_rest(next, 0)?;
+        Some(next * 4096 + rest)
+    }
+}
+
+ghost use Rattle.std.specs.Prelude.{◌≡◌, ◌+◌, ◌*◌, ◌^◌, ◌<◌, ◌≤◌};
+ghost use Rattle.rank.specs.Layout.{flag};
+ghost use Rattle.ranked.specs.Digits.{digit};
+
+// Bit q, if it is set.
+fn flag_at(set: bool, q: u8) -> u64
+    requires { q < 6 }
+    ensures value { result ≡ flag set * 2 ^ q }
+    ensures small { result ≤ 32 }
+{
+    if set { 1 << q } else { 0 }
+}
+
+// What four bits of the ranks hold.
+pub(crate) fn digit(ranks: u64, q: u8) -> u64
+    requires { q < 6 }
+    ensures { result ≡ digit ranks q }
+{
+    (ranks >> (4 * q)) % 16
+}
+
+// The ranks of q states, and a digit above them.
+fn joined(digit: u64, q: u8, ranks: u64) -> u64
+    requires { (q < 6) × (digit < 16) × (ranks < 2 ^ (4 * q)) }
+    ensures { result ≡ digit * 2 ^ (4 * q) + ranks }
+{
+    (digit << (4 * q)) + ranks
+}
