@@ -13,7 +13,7 @@ or_digit u v h k = grind (arith, nat_tests)
 pub bit_of_or : (a b q : ℕ) → bit (bit_or a b) q ≡ (bit a q || bit b q)
 bit_of_or a b q = ap (λ x. eqb x 1) (bit_at_or a b q) ∙ or_digit (a / 2 ^ q % 2) (b / 2 ^ q % 2) (bit_at-lt a q) (bit_at-lt b q)
 
-bit_pow : (q i : ℕ) → bit (2 ^ q) i ≡ eqb q i
+pub bit_pow : (q i : ℕ) → bit (2 ^ q) i ≡ eqb q i
 bit_pow q i =
     ⊎_elim
     (λ (e : q ≡ i). rw (← e, eq-eqb q q refl) (ap (λ x. eqb x 1) (bit_at-pow_same q)))

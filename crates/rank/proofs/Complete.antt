@@ -120,7 +120,7 @@ module _ (a b : Automaton) (charts : Charts a b) (word : ℕ → ℕ) (width : �
       record {
         duty = duty.starts;
         ranks = λ q h. start_rank q;
-        owed = empty_from b (λ q. false) (λ q o. false≢true o);
+        owed = empty_from b (λ q. false) (λ q h o. false≢true o);
         turn = refl;
       }
 

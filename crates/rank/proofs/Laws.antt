@@ -13,9 +13,9 @@ use Rattle.rank.specs.Rules.{top_rank, is_even, has_even, may_have, is_empty, fo
 pub empty_none : (b : Automaton) (set : ℕ → Bool) (q : ℕ) → is_empty b set ≡ true → q < b.states → set q ≡ true → ⊥
 empty_none b set q e h s = both_ways (set q) (not-true (set q) (all_at b.states (λ q. not (set q)) e q h)) s
 
-pub empty_from : (b : Automaton) (set : ℕ → Bool) → ((q : ℕ) → set q ≡ true → ⊥) → is_empty b set ≡ true
+pub empty_from : (b : Automaton) (set : ℕ → Bool) → ((q : ℕ) → q < b.states → set q ≡ true → ⊥) → is_empty b set ≡ true
 empty_from b set none =
-    all_from b.states (λ q. not (set q)) (λ q h. not_from_false (set q) (false_from_ne_true (set q) (none q)))
+    all_from b.states (λ q. not (set q)) (λ q h. not_from_false (set q) (false_from_ne_true (set q) (none q h)))
 
 pub some_member : (b : Automaton) (set : ℕ → Bool) → is_empty b set ≡ false → (q : ℕ) × (q < b.states) × (set q ≡ true)
 some_member b set e =
@@ -62,6 +62,10 @@ top_small b few = omega arith
 pub first_ranked : (b : Automaton) (q : ℕ) (o : Option ℕ) → is_first_rank b q o ≡ true → b.start q ≡ true → (r : ℕ) × (o ≡ Some r)
 first_ranked b q None e s = absurd (both_ways (b.start q) (not-true (b.start q) e) s)
 first_ranked b q (Some r) e s = (r, refl)
+
+-- and only a start
+pub first_start : (b : Automaton) (q r : ℕ) → is_first_rank b q (Some r) ≡ true → b.start q ≡ true
+first_start b q r e = (and_parts (b.start q) (eqb r (top_rank b)) e).0
 
 pub first_some : (b : Automaton) (q : ℕ) → b.start q ≡ true → is_first_rank b q (Some (top_rank b)) ≡ true
 first_some b q s = and_from (b.start q) (eqb (top_rank b) (top_rank b)) s (eq-eqb (top_rank b) (top_rank b) refl)

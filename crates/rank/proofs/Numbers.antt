@@ -21,7 +21,7 @@ flag_read : (b : Bool) → eqb (flag b) 1 ≡ b
 flag_read true = refl
 flag_read false = refl
 
-rank_read : (r : Option ℕ) → rank_held (held r) ≡ r
+pub rank_read : (r : Option ℕ) → rank_held (held r) ≡ r
 rank_read None = refl
 rank_read (Some r) = refl
 

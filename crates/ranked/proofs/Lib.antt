@@ -5,3 +5,9 @@ pub mod Numerals
 pub mod Uppers
 pub mod Raising
 pub mod Choosing
+pub mod Offering
+pub mod Reading
+pub mod Upto
+pub mod Ranking
+pub mod Owing
+pub mod Matching

@@ -83,3 +83,8 @@ module _ (P : ℕ → Bool → Type 0) (s q : ℕ) (small : s < 2 ^ q) (told : (
         subst (λ x. P x (bit s x)) e (subst (P q) (sym (beyond_false s q q small (omega arith))) fail))
         (cases_lt k q),
   )
+
+-- a set that is not empty has a member
+pub some_member : (s : ℕ) → s < 2 ^ 32 → s ≢ 0 → (q : ℕ) × (bit s q ≡ true)
+some_member s small some =
+    let t = bit_at-trailing_zeros w32 s (omega arith) small in (count_trailing_zeros 32 s, ap (λ x. eqb x 1) t.1)

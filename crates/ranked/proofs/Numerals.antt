@@ -1,32 +1,25 @@
 -- Digits of four bits: one more digit above others.
 use Rattle.std.proofs.Common.{◌≡◌, ℕ, suc, ◌+◌, ◌*◌, ◌/◌, ◌%◌, ◌^◌, ◌<◌, ◌≤◌, Bool, true, ◌&&◌, ltb, List, get_or, refl, sym, ap, ◌∙◌, subst, ⊎_elim, arith}
-use Rattle.std.proofs.Math.Nat.{div-lt_iff_lt-mul, mod-eq_of_lt, mul-suc}
+use Rattle.std.proofs.Math.Nat.{mul-suc}
 use Rattle.std.proofs.lemmas.Bool.{and_from, and_parts, cases_eq, lt-ltb, ltb-true}
 use Rattle.std.proofs.lemmas.Nat.{div-mul-add, mod-mul-add, pow_pos, pow-add}
 use Rattle.chart.specs.Kinds.{bit}
 use Rattle.numbers.specs.Below.{all_below}
 use Rattle.numbers.proofs.Below.{all_at, all_from}
 use Rattle.rank.specs.Layout.{bits}
-use Rattle.rank.proofs.Fields.{bits_below, bits_here, sum_small}
+use Rattle.rank.proofs.Fields.{bits_low, bits_top, sum_small}
 use Rattle.ranked.specs.Digits.{digit, made}
 
 -- the size of k digits
 pub four_more : (k : ℕ) → 2 ^ (4 * suc k) ≡ 2 ^ (4 * k) * 16
 four_more k = rw (mul-suc 4 k, pow-add 2 (4 * k) 4) refl
 
--- a number's low bits, and what is above them
-halves : (v k : ℕ) → v ≡ v % 2 ^ k + v / 2 ^ k * 2 ^ k
-halves v k = let pos = pow_pos k in omega arith
-
 pub digit_low : (v k q : ℕ) → q < k → digit (v % 2 ^ (4 * k)) q ≡ digit v q
-digit_low v k q h =
-    let e = halves v (4 * k) in
-    sym (ap (λ x. digit x q) e ∙ bits_below (v % 2 ^ (4 * k)) (v / 2 ^ (4 * k)) (4 * k) (4 * q) 4 (omega arith))
+digit_low v k q h = bits_low v (4 * k) (4 * q) 4 (omega arith)
 
 -- the last of k + 1 digits
-pub digit_last : (v k : ℕ) → v < 2 ^ (4 * suc k) → digit v k ≡ v / 2 ^ (4 * k)
-digit_last v k h = let pos = pow_pos (4 * k) in
-    mod-eq_of_lt ((div-lt_iff_lt-mul pos).1 (omega (arith, four_more k)))
+digit_last : (v k : ℕ) → v < 2 ^ (4 * suc k) → digit v k ≡ v / 2 ^ (4 * k)
+digit_last v k h = bits_top v (4 * k) 4 (rw (← mul-suc 4 k) h)
 
 module _ (sets : List ℕ) where
   abbrev fits : ℕ → ℕ → Bool

@@ -2,3 +2,9 @@ pub mod Snapshots
 pub mod Kept
 pub mod Digits
 pub mod Choices
+pub mod Offers
+pub mod Reads
+pub mod Following
+pub mod Maps
+pub mod Bounds
+pub mod Tests

@@ -71,7 +71,15 @@ impl Choices {
     fn admits(self, ranks: u64) -> bool
         ensures { result ≡ made self.held 6 ranks }
     {
-        self.least_ranks(ranks) == Some(ranks)
+        if ranks >= 1 << 24 {
+            return false;
+        }
+        for q in 0..6u8 {
+            if !contains(self.held[q as usize] as u32, digit(ranks, q)) {
+                return false;
+            }
+        }
+        true
     }
 
     // The owed set that goes with the ranks.
@@ -109,6 +117,19 @@ impl Choices {
             self.least_rest(ranks, from)
         } else {
             None
+        }
+    }
+
+    // Is v one of them?
+    pub(crate) fn has(self, v: u64) -> bool
+        ensures { result ≡ chosen self v }
+    {
+        if !self.admits(v / 4096) {
+            return false;
+        }
+        match (v % 4096).checked_sub(self.upper(v / 4096)) {
+            Some(state) => contains(self.duty, state),
+            None => false,
         }
     }
 

@@ -2,5 +2,10 @@
 #![tactic(auto)]
 
 mod choices;
+mod maps;
+mod nodes;
+mod offers;
 mod sets;
 mod snapshots;
+
+pub use maps::RankedMap;
