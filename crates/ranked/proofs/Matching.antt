@@ -1,19 +1,19 @@
 -- The choices for starts, for a node itself and for its successors tell exactly these.
-use Rattle.std.proofs.Common.{◌≡◌, ℕ, ◌+◌, ◌<◌, ◌≤◌, Bool, true, false, not, ◌&&◌, ◌||◌, eqb, ltb, Option, Some, None, is_some, refl, sym, ap, ◌∙◌, subst, arith}
-use Rattle.std.proofs.lemmas.Bool.{and_from, and_left, and_parts, and_right, both_ways, cases_Bool, eq-eqb, eqb-true, false_from_ne_true, false≢true, le-ltb, lt-ltb, or_right}
+use Rattle.std.proofs.Common.{◌≡◌, ℕ, ◌<◌, ◌≤◌, Bool, true, false, ◌&&◌, ◌||◌, eqb, Option, Some, None, is_some, refl, sym, ◌∙◌, subst, arith}
+use Rattle.std.proofs.lemmas.Bool.{and_from, and_parts, and_right, both_ways, eq-eqb, eqb-true, false_from_ne_true, false≢true, le-ltb, lt-ltb}
 use Rattle.chart.specs.Automata.{Automaton}
 use Rattle.rank.specs.Containment.{Charts}
 use Rattle.rank.specs.Layout.{parts}
 use Rattle.rank.specs.Nodes.{Node}
 use Rattle.rank.specs.Ranked.{is_number, ranked_graph}
-use Rattle.rank.specs.Rules.{follows, has_even, is_empty, is_first_rank, is_next_rank, next_owed, next_turn}
+use Rattle.rank.specs.Rules.{follows, has_even, is_empty, is_first_rank, is_next_rank, next_turn}
 use Rattle.rank.proofs.Implied.{alike}
 use Rattle.rank.proofs.Laws.{empty_from, empty_none, first_none, first_start, follows_some, next_none}
 use Rattle.rank.proofs.Tests.{edge_holds, edge_test, first_holds, first_test, number_holds, start_number}
 use Rattle.ranked.specs.declared.choices.Choices.{Choices}
 use Rattle.ranked.specs.Choices.{chosen}
 use Rattle.ranked.specs.Tests.{is_within, StartsOffered, NodeOffered, NextOffered}
-use Rattle.ranked.proofs.Offering.{Passes, chosen_passes, passes_chosen}
+use Rattle.ranked.proofs.Offering.{chosen_passes, passes_chosen}
 use Rattle.ranked.proofs.Ranking.{next_follows}
 
 module _ (a b : Automaton) (charts : Charts a b) (c : Choices) where

@@ -1,8 +1,8 @@
 -- Members of a set that is the bits of a number.
-use Rattle.std.proofs.Common.{◌≡◌, ℕ, zero, suc, ◌+◌, ◌-◌, ◌/◌, ◌%◌, ◌^◌, ◌<◌, ◌≤◌, ◌≢◌, ◌||◌, Bool, true, false, eqb, Some, None, sym, ap, ◌∙◌, subst, ⊎_elim, refl, add-one, w32, arith}
+use Rattle.std.proofs.Common.{◌≡◌, ℕ, ◌+◌, ◌-◌, ◌/◌, ◌%◌, ◌^◌, ◌<◌, ◌≤◌, ◌≢◌, ◌||◌, Bool, true, false, eqb, Some, None, sym, ap, ◌∙◌, subst, ⊎_elim, refl, add-one, w32, arith}
 use Rattle.std.proofs.Math.Nat.{pow-suc}
 use Rattle.std.proofs.Math.Pow.{pow_mono}
-use Rattle.std.proofs.lemmas.Bool.{both_ways, cases_Bool, cases_lt, eq-eqb, eqb-true, false_from_ne_true, ne_eqb, or_left, true≢false}
+use Rattle.std.proofs.lemmas.Bool.{both_ways, cases_lt, eq-eqb, false_from_ne_true, ne_eqb, or_left}
 use Rattle.std.proofs.lemmas.Nat.{or_lt, shr-shr, pow_pos}
 use Rattle.std.proofs.lemmas.Nat.Bits.{bit_at-trailing_zeros, bit_at-zero}
 use lib.Bits.{bit_or}
@@ -55,8 +55,8 @@ least_some s from small some fits =
       omega arith,
       sym (shifted s from z) ∙ ap (λ x. eqb x 1) t.1,
       λ w low less m. let i : from + (w - from) ≡ w = omega arith in
-      both_ways (bit s w)
-      (subst (λ x. bit s x ≡ false) i (sym (shifted s from (w - from)) ∙ ap (λ x. eqb x 1) (t.2 (w - from) (omega arith)))) m,
+          both_ways (bit s w)
+          (subst (λ x. bit s x ≡ false) i (sym (shifted s from (w - from)) ∙ ap (λ x. eqb x 1) (t.2 (w - from) (omega arith)))) m,
     )
 
 pow_less : (q : ℕ) → 2 ^ q < 2 ^ (q + 1)

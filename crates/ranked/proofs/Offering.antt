@@ -1,16 +1,16 @@
 -- Choices for the parts of nodes tell exactly the numbers of the nodes with such parts.
-use Rattle.std.proofs.Common.{◌≡◌, ℕ, zero, suc, ◌+◌, ◌-◌, ◌*◌, ◌/◌, ◌%◌, ◌^◌, ◌<◌, ◌≤◌, Bool, true, false, ◌&&◌, eqb, leb, List, get_or, Option, Some, None, refl, sym, ap, ◌∙◌, subst, ⊎_elim, arith}
+use Rattle.std.proofs.Common.{◌≡◌, ℕ, zero, suc, ◌+◌, ◌-◌, ◌*◌, ◌/◌, ◌%◌, ◌^◌, ◌<◌, ◌≤◌, Bool, true, ◌&&◌, eqb, leb, get_or, Option, Some, None, refl, sym, ap, ◌∙◌, subst, ⊎_elim, arith}
 use Rattle.std.proofs.Math.Pow.{pow_mono}
 use Rattle.std.proofs.lemmas.Bool.{and_from, and_parts, cases_lt, le-leb, leb-true}
 use Rattle.std.proofs.lemmas.Bool.Decides.{nat_tests}
 use Rattle.chart.specs.Automata.{Automaton}
 use Rattle.chart.specs.Kinds.{bit}
 use Rattle.rank.specs.Containment.{Charts}
-use Rattle.rank.specs.Layout.{bits, fields, flag, held, number, parts, rank_held}
+use Rattle.rank.specs.Layout.{fields, flag, held, number, parts, rank_held}
 use Rattle.rank.specs.Nodes.{Node}
 use Rattle.rank.specs.Numbering.{IsNode}
 use Rattle.rank.specs.Ranked.{is_number}
-use Rattle.rank.specs.Rules.{has_even, is_even, may_have}
+use Rattle.rank.specs.Rules.{has_even, may_have}
 use Rattle.rank.proofs.Fields.{field_at, field_beyond, fields_like, fields_own, fields_small, fields_zeros, no_bits}
 use Rattle.rank.proofs.Laws.{marked_even, may_have_none, rank_most}
 use Rattle.rank.proofs.Numbers.{Fits, flag_small, node_fits, numbers_correspond, rank_read}

@@ -1,5 +1,5 @@
 -- The owed set as bits, and what follows from it.
-use Rattle.std.proofs.Common.{◌≡◌, ℕ, suc, ◌+◌, ◌<◌, ◌≤◌, ◌⊎◌, Bool, true, false, not, ◌&&◌, ◌||◌, eqb, ltb, Option, Some, None, refl, sym, ap, ◌∙◌, subst, ⊎_elim, add-one, arith}
+use Rattle.std.proofs.Common.{◌≡◌, ℕ, suc, ◌+◌, ◌<◌, ◌≤◌, ◌⊎◌, Bool, true, false, not, ◌&&◌, ◌||◌, eqb, ltb, Option, Some, None, refl, sym, ap, ◌∙◌, subst, ⊎_elim, arith}
 use Rattle.std.proofs.Math.Bool.{or_comm}
 use Rattle.std.proofs.lemmas.Bool.{and_from, and_parts, both_ways, cases_eq, cases_lt, eq-eqb, eqb-true, false≢true, lt-ltb, ne_eqb}
 use lib.Bits.{bit_or}
@@ -10,7 +10,6 @@ use Rattle.numbers.specs.Below.{any_below}
 use Rattle.numbers.proofs.Below.{any_at, any_from}
 use Rattle.rank.specs.Containment.{Charts}
 use Rattle.rank.specs.Layout.{parts}
-use Rattle.rank.specs.Numbering.{IsNode}
 use Rattle.rank.specs.Ranked.{is_number}
 use Rattle.rank.specs.Rules.{follows, has_even, is_empty, is_marked, next_turn}
 use Rattle.rank.proofs.Implied.{alike}

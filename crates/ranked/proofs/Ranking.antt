@@ -1,16 +1,16 @@
 -- Which digits the choices let each state have: at a start, at any node, and after a step.
-use Rattle.std.proofs.Common.{◌≡◌, ℕ, zero, suc, ◌+◌, ◌*◌, ◌%◌, ◌^◌, ◌<◌, ◌≤◌, Bool, true, false, not, ◌&&◌, ◌||◌, eqb, leb, ltb, Option, Some, None, is_some, refl, sym, ap, ◌∙◌, subst, ⊎_elim, arith}
-use Rattle.std.proofs.lemmas.Bool.{and_from, and_left, and_parts, and_right, both_ways, cases_Bool, cases_lt, eq-eqb, eqb-true, false_from_ne_true, false≢true, le-leb, le-ltb, leb-true, lt-ltb, ne_eqb, not-true}
+use Rattle.std.proofs.Common.{◌≡◌, ℕ, zero, suc, ◌%◌, ◌<◌, ◌≤◌, Bool, true, false, not, ◌&&◌, ◌||◌, eqb, leb, Option, Some, None, is_some, refl, sym, ap, ◌∙◌, subst, arith}
+use Rattle.std.proofs.lemmas.Bool.{and_from, and_left, and_parts, and_right, eq-eqb, eqb-true, false_from_ne_true, le-leb, le-ltb, leb-true, lt-ltb, ne_eqb}
 use Rattle.std.proofs.lemmas.Bool.Decides.{nat_tests}
 use lib.Bits.{bit_or}
 use Rattle.chart.specs.Automata.{Automaton}
 use Rattle.chart.specs.Kinds.{bit}
-use Rattle.chart.proofs.Bits.{bit_of_or, bit_pow}
+use Rattle.chart.proofs.Bits.{bit_of_or}
 use Rattle.numbers.specs.Below.{all_below}
-use Rattle.rank.specs.Layout.{held, rank_held}
-use Rattle.rank.specs.Rules.{at_most, follows, has_even, is_even, is_first_rank, is_next_rank, may_have, top_rank}
+use Rattle.rank.specs.Layout.{rank_held}
+use Rattle.rank.specs.Rules.{at_most, follows, is_even, is_first_rank, is_next_rank, may_have, top_rank}
 use Rattle.rank.proofs.Implied.{alike, implied, implied_from}
-use Rattle.rank.proofs.Laws.{follows_from, follows_some, marked_even, may_have_from, next_none, next_ranked, next_some, rank_most, some_value, top_even}
+use Rattle.rank.proofs.Laws.{follows_from, follows_some, marked_even, may_have_from, next_none, next_ranked, next_some, some_value, top_even}
 use Rattle.ranked.specs.Digits.{digit}
 use Rattle.ranked.specs.Tests.{is_within}
 use Rattle.ranked.specs.Following.{Lowest, is_upto}

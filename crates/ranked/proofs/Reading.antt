@@ -1,9 +1,8 @@
 -- The parts that are read from a number are those that it tells.
-use Rattle.std.proofs.Common.{◌≡◌, ℕ, ◌+◌, ◌*◌, ◌/◌, ◌%◌, ◌^◌, ◌<◌, ◌&&◌, eqb, ltb, refl, sym, ap, ◌∙◌, arith}
+use Rattle.std.proofs.Common.{ℕ, ◌+◌, ◌*◌, ◌/◌, ◌%◌, ◌^◌, ◌&&◌, eqb, refl, sym, ap, ◌∙◌, arith}
 use Rattle.std.proofs.Math.Nat.{div-one}
 use Rattle.std.proofs.lemmas.Bool.{lt-ltb}
 use Rattle.std.proofs.lemmas.Nat.{shr-shr}
-use Rattle.chart.specs.Kinds.{bit}
 use Rattle.rank.specs.Layout.{rank_held}
 use Rattle.rank.proofs.Fields.{bits_low}
 use Rattle.ranked.specs.Reads.{Reads}

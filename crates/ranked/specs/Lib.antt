@@ -7,4 +7,5 @@ pub mod Reads
 pub mod Following
 pub mod Maps
 pub mod Bounds
+pub mod Refused
 pub mod Tests

@@ -1,5 +1,5 @@
 -- The parts of a node, read from its number.
-use Rattle.std.specs.Prelude.{◌≡◌, ℕ, ◌/◌, ◌^◌, ◌<◌}
+use Rattle.std.specs.Prelude.{◌≡◌, ℕ, ◌^◌, ◌<◌}
 use Rattle.chart.specs.Kinds.{bit}
 use Rattle.rank.specs.Layout.{parts, rank_held}
 use Rattle.ranked.specs.Digits.{digit}

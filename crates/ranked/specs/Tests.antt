@@ -1,7 +1,6 @@
 -- The choices that tell the starts, a node itself, and its successors: which ranks pass, and which states owe.
-use Rattle.std.specs.Prelude.{ℕ, Bool, true, false, ◌&&◌, ◌||◌, Option, Some, None, ◌==◌, nat_lt}
+use Rattle.std.specs.Prelude.{ℕ, Bool, true, false, ◌||◌, Option, Some, None, ◌==◌, nat_lt}
 use Rattle.chart.specs.Automata.{Automaton}
-use Rattle.rank.specs.Layout.{parts}
 use Rattle.rank.specs.Nodes.{Node}
 use Rattle.rank.specs.Rules.{follows, is_empty, is_first_rank, is_next_rank, next_turn}
 use Rattle.ranked.specs.declared.choices.Choices.{Choices}

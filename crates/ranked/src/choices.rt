@@ -88,7 +88,10 @@ impl Choices {
     {
         let mut owed = 0u64;
         for q in 0..6u8 {
-            owed += flag_at(digit(ranks, q) % 2 == 1 && contains(self.owing, q as u64), q);
+            owed += flag_at(
+                digit(ranks, q) % 2 == 1 && contains(self.owing, q as u64),
+                q,
+            );
         }
         owed
     }

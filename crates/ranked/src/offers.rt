@@ -32,7 +32,10 @@ impl RankedMap {
         ensures { (d : ℕ) → d < 16 → bit result d ≡ (may_have (rule_of self.now) q (rank_held d) && is_within (rule_of self.now) q (rank_held d)) }
     {
         if q < self.rule.states {
-            1 | digits_upto(2 * self.rule.states + 1, contains(self.rule.marks, q as u64))
+            1 | digits_upto(
+                2 * self.rule.states + 1,
+                contains(self.rule.marks, q as u64),
+            )
         } else {
             1
         }
@@ -66,7 +69,10 @@ impl RankedMap {
         requires letter { letter < self.now.rule.letters }
         ensures { (v : ℕ) → Reads v node → is_number (duty_of self.now) (rule_of self.now) v ≡ true → (d : ℕ) → d < 16 → bit result d ≡ (may_have (rule_of self.now) q (rank_held d) && is_next_rank (rule_of self.now) (parts v).rank letter q (rank_held d)) }
     {
-        digits_upto(self.lowest(node.ranks, letter, q), contains(self.rule.marks, q as u64))
+        digits_upto(
+            self.lowest(node.ranks, letter, q),
+            contains(self.rule.marks, q as u64),
+        )
     }
 
     // The states that follow a member of the set.

@@ -1,4 +1,4 @@
-use Rattle.std.proofs.Common.{◌≡◌, ℕ, ◌<◌, Bool, subst, sym, ◌∙◌, ap}
+use Rattle.std.proofs.Common.{sym, ◌∙◌, ap}
 use Rattle.ranked.specs.Following.{is_upto}
 use Rattle.ranked.proofs.Upto.{bit_zero, upto_any, upto_odd}
 use Rattle.ranked.proofs.offers.digits_upto.Goals as goal

@@ -1,4 +1,4 @@
-use Rattle.std.proofs.Common.{◌≡◌, ℕ, ◌+◌, ◌*◌, ◌/◌, ◌%◌, ◌^◌, ◌<◌, Some, None, subst, sym, arith}
+use Rattle.std.proofs.Common.{◌/◌, subst, sym, arith}
 use Rattle.std.proofs.lemmas.Bool.{and_parts}
 use Rattle.graph.specs.Least.{Least}
 use Rattle.ranked.specs.Choices.{chosen, rest}

@@ -1,5 +1,4 @@
 use Rattle.std.proofs.Common.{ℕ, ◌%◌, ◌≤◌, ◌*◌, ◌&&◌, eqb, arith}
-use Rattle.std.proofs.Math.Nat.{mul-le-mul}
 use Rattle.std.proofs.Math.Pow.{pow_mono}
 use Rattle.chart.specs.Kinds.{bit}
 use Rattle.rank.specs.Layout.{flag}

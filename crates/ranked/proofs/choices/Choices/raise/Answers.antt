@@ -1,4 +1,4 @@
-use Rattle.std.proofs.Common.{◌≡◌, ℕ, ◌+◌, ◌*◌, ◌%◌, ◌^◌, ◌<◌, Some, None, suc, get_or, subst, sym, ap, ◌∙◌, arith}
+use Rattle.std.proofs.Common.{◌≡◌, ℕ, ◌+◌, ◌*◌, ◌%◌, ◌^◌, Some, None, suc, get_or, subst, sym, ap, ◌∙◌, arith}
 use Rattle.chart.specs.Kinds.{bit}
 use Rattle.graph.specs.Least.{Least}
 use Rattle.ranked.specs.Digits.{digit, made}

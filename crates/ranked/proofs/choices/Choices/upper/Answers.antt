@@ -1,5 +1,4 @@
 use Rattle.std.proofs.Common.{arith}
-use Rattle.rank.proofs.Numbers.{flag_small}
 use Rattle.ranked.proofs.Uppers.{owed_small}
 use Rattle.ranked.proofs.choices.Choices.upper.Goals as goal
 

@@ -1,9 +1,8 @@
-use Rattle.std.proofs.Common.{◌≡◌, ◌%◌, ◌<◌, ap, ◌∙◌, eqb, rules, sym, arith}
+use Rattle.std.proofs.Common.{◌≡◌, ◌%◌, ap, ◌∙◌, eqb, rules, arith}
 use Rattle.std.proofs.Math.Nat.{mod-eq_of_lt}
 use Rattle.std.proofs.lemmas.Nat.{one_shl}
 use Rattle.chart.specs.Kinds.{bit}
 use Rattle.chart.proofs.Bits.{bit_pow}
-use Rattle.ranked.specs.Maps.{rule_of}
 use Rattle.ranked.proofs.maps.RankedMap.around.Goals as goal
 
 pub returns : goal.returns

@@ -1,4 +1,4 @@
-use Rattle.std.proofs.Common.{◌≡◌, ℕ, ◌+◌, ◌&&◌, Bool, subst, sym, ap, ◌∙◌, arith}
+use Rattle.std.proofs.Common.{◌≡◌, ℕ, ◌&&◌, sym, ap, ◌∙◌, arith}
 use Rattle.std.proofs.lemmas.Bool.{and_left}
 use Rattle.chart.specs.Kinds.{bit}
 use Rattle.numbers.specs.Below.{any_below}
@@ -13,12 +13,12 @@ loop-p-preserved c =
     let p : ℕ = c.loop-p.p in
     let leads = λ (q k : ℕ). bit c.args.set k && b.step k c.args.letter q in
     elim c.if-contains.branch [
-      then-contains w ↦ λ q. ap (λ s. bit s q) w.followers-is
-      ∙ followers_with (leads q) p c.loop-p.followers w.steps-followers.result q (c.loop-p.invariant q)
-      (w.steps-followers.ensures q ∙ ap (λ t. t && b.step p c.args.letter q) w.if-contains.ensures)
-    | else-contains w ↦ λ q. ap (λ s. bit s q) w.followers-is
-      ∙ followers_without (leads q) p c.loop-p.followers q (c.loop-p.invariant q)
-      (and_left (bit c.args.set p) (b.step p c.args.letter q) (sym w.if-contains.ensures))
+      | then-contains w ↦ λ q. ap (λ s. bit s q) w.followers-is
+          ∙ followers_with (leads q) p c.loop-p.followers w.steps-followers.result q (c.loop-p.invariant q)
+          (w.steps-followers.ensures q ∙ ap (λ t. t && b.step p c.args.letter q) w.if-contains.ensures)
+      | else-contains w ↦ λ q. ap (λ s. bit s q) w.followers-is
+          ∙ followers_without (leads q) p c.loop-p.followers q (c.loop-p.invariant q)
+          (and_left (bit c.args.set p) (b.step p c.args.letter q) (sym w.if-contains.ensures))
     ]
 
 pub returns : goal.returns

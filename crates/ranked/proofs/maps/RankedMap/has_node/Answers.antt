@@ -1,7 +1,4 @@
-use Rattle.std.proofs.Common.{◌<◌, ◌∙◌, subst, sym}
-use Rattle.std.proofs.lemmas.Bool.{false_from_ne_true}
-use Rattle.rank.specs.Layout.{parts}
-use Rattle.rank.specs.Ranked.{is_number}
+use Rattle.std.proofs.Common.{◌<◌, ◌∙◌, subst}
 use Rattle.ranked.specs.Bounds.{charts_of}
 use Rattle.ranked.specs.Maps.{duty_of, rule_of}
 use Rattle.ranked.proofs.Matching.{node_chosen}

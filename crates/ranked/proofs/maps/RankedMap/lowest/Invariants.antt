@@ -1,4 +1,3 @@
-use Rattle.std.proofs.Common.{ℕ, ◌<◌}
 use Rattle.ranked.specs.Following.{LowestBelow}
 use Rattle.ranked.specs.Maps.{rule_of}
 use Rattle.ranked.proofs.maps.RankedMap.lowest.Given as goal

@@ -1,4 +1,4 @@
-use Rattle.std.proofs.Common.{◌≡◌, ℕ, suc, ◌+◌, ◌*◌, ap, ◌∙◌, arith}
+use Rattle.std.proofs.Common.{◌≡◌, suc, ◌+◌, ◌*◌, ap, ◌∙◌, arith}
 use Rattle.ranked.specs.Following.{is_upto}
 use Rattle.ranked.specs.Maps.{rule_of}
 use Rattle.ranked.proofs.Ranking.{node_of_other, node_of_state}

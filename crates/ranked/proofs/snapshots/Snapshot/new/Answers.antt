@@ -1,5 +1,5 @@
 use Rattle.std.proofs.Common.{arith}
-use Rattle.ranked.proofs.Keeping.{rows_limits, rows_same}
+use Rattle.ranked.proofs.Keeping.{rows_limits}
 use Rattle.ranked.proofs.snapshots.Snapshot.new.Goals as goal
 
 pub invariant_of-result : goal.invariant_of-result
