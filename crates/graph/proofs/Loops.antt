@@ -1,11 +1,11 @@
 -- Walks as functions of the place: a trail from node to node, and a loop, which is a trail from a start that comes
 -- back to a node of its own and passes a marked one on the way. A graph has a loop where it has a marked cycle, and
 -- where its nodes are few it has a short one.
-use Rattle.std.proofs.Common.{◌≡◌, ℕ, zero, suc, ◌+◌, ◌-◌, ◌<◌, ◌≤◌, true, cond, ltb, sym, refl, ap, ◌∙◌, subst, ⊎_elim, arith}
+use Rattle.std.proofs.Common.{◌≡◌, ℕ, zero, suc, ◌+◌, ◌-◌, ◌*◌, ◌<◌, ◌≤◌, true, cond, ltb, sym, refl, ap, ◌∙◌, subst, ⊎_elim, arith}
 use Rattle.std.proofs.lemmas.Bool.{cases_lt, cond-true, cond-false, lt-ltb, le-ltb}
-use Rattle.graph.specs.Graphs.{Graph, Bounded}
+use Rattle.graph.specs.Graphs.{Graph}
 use Rattle.graph.specs.Walks.{Edge, Reach, begin, go, here, next, Path, MarkedCycle}
-use Rattle.numbers.proofs.Pigeonhole.{pigeonhole}
+use Rattle.graph.proofs.Counting.{Placed, same_twice}
 use Rattle.graph.proofs.Paths.{path_join}
 
 -- an edge leads from the node at place k to the one at the next place
@@ -113,21 +113,25 @@ module _ (g : Graph) where
   reach_trail (begin {v} h) = (v, 0, h, none v)
   reach_trail (go r e) = let t = reach_trail r in (t.0, t.1 + 1, t.2, join t.3 (one e))
 
-  -- A trail that repeats a node goes on from the second time as from the first, and is shorter so.
-  shorten : Bounded g → (V : ℕ) → ((v : ℕ) → g.node v ≡ true → v < V) → (most : ℕ) {v w : ℕ} (n : ℕ) → n ≤ most → Trail g v n w → (m : ℕ) × (m ≤ V) × Trail g v m w
-  shorten b V few zero n h t = (n, omega arith, t)
-  shorten b V few (suc most) {v} {w} n h t =
-      ⊎_elim
-      (λ (long : V < n).
-      let twice = pigeonhole V t.at (λ k low. few (t.at k) (b.edges (t.at k) (t.by k) (t.at (suc k)) (t.edges k (omega arith)).1).0) in
-      let i = twice.0 in
-      let j = twice.1 in
-      let apart : i < j = twice.2 in
-      let within : j ≤ V = twice.3 in
-      let cut : Trail g (t.at i) (n - j) w = subst (λ x. Trail g x (n - j) w) (sym twice.4) (rest t j (n - j) (omega arith)) in
-      shorten b V few most (i + (n - j)) (omega arith) (join (front t i (omega arith)) cut))
-      (λ short. (n, short, t))
-      (cases_lt V n)
+  reach_along : (at by : ℕ → ℕ) → Reach g (at 0) → (n : ℕ) → ((k : ℕ) → k < n → Goes g at by k) → Reach g (at n)
+  reach_along at by r zero edges = r
+  reach_along at by r (suc n) edges =
+      let e = edges n (omega arith) in
+      go (reach_along at by r n (λ k h. edges k (omega arith))) (by n, e.0, e.1)
+
+  -- A trail that repeats a node goes on from the second time as from the first, and is shorter so. Where V places hold every
+  -- reachable node, it is cut to fewer than V edges, since its nodes, the last one too, are different then.
+  shorten : (V : ℕ) (node : ℕ → ℕ) → Placed g V node → (most : ℕ) {v w : ℕ} (n : ℕ) → n ≤ most → Reach g v → Trail g v n w → (m : ℕ) × (m < V) × Trail g v m w
+  shorten V node whole zero {v} n h r t = (n, omega (arith, (whole v r).1), t)
+  shorten V node whole (suc most) {v} {w} n h r t =
+      ⊎_elim (λ (short : n < V). (n, short, t))
+      (λ (long : V ≤ n).
+      let reached : (k : ℕ) → k ≤ V → Reach g (t.at k) =
+      λ k low. reach_along t.at t.by (rw t.begins r) k (λ i h. t.edges i (omega arith)) in
+      let (i, j, apart, within, same) = same_twice g V V node (omega arith) whole t.at reached in
+      let cut : Trail g (t.at i) (n - j) w = subst (λ x. Trail g x (n - j) w) (sym same) (rest t j (n - j) (omega arith)) in
+      shorten V node whole most (i + (n - j)) (omega arith) r (join (front t i (omega arith)) cut))
+      (cases_lt n V)
 
   -- a trail from a start, an edge, and a trail back make a loop
   looped : {s v u m n : ℕ} → g.start s ≡ true → g.marked v ≡ true → Trail g s m v → Edge g v u → Trail g u n v → (l : Loop g) × (l.to ≡ m + (1 + n))
@@ -154,21 +158,15 @@ module _ (g : Graph) where
       let back = path_trail r.cycle.2 in
       (looped t.2 r.marked t.3 r.cycle.1 back.1).0
 
-  -- where the nodes are below V, each of the two trails is cut to V edges
-  pub cycle_short_loop : Bounded g → (V : ℕ) → ((v : ℕ) → g.node v ≡ true → v < V) → MarkedCycle g → (l : Loop g) × (l.to ≤ V + (1 + V))
-  cycle_short_loop b V few (v, r) =
+  -- where V places hold every reachable node, each of the two trails is cut to fewer than V edges
+  pub cycle_short_loop : (V : ℕ) (node : ℕ → ℕ) → Placed g V node → MarkedCycle g → (l : Loop g) × (l.to < 2 * V)
+  cycle_short_loop V node whole (v, r) =
       let t = reach_trail r.reached in
       let back = path_trail r.cycle.2 in
-      let there = shorten b V few t.1 t.1 (omega arith) t.3 in
-      let again = shorten b V few back.0 back.0 (omega arith) back.1 in
+      let there = shorten V node whole t.1 t.1 (omega arith) (begin t.2) t.3 in
+      let again = shorten V node whole back.0 back.0 (omega arith) (go r.reached r.cycle.1) back.1 in
       let l = looped t.2 r.marked there.2 r.cycle.1 again.2 in
       (l.0, omega (arith, l.1, there.1, again.1))
-
-  reach_along : (at by : ℕ → ℕ) → g.start (at 0) ≡ true → (n : ℕ) → ((k : ℕ) → k < n → Goes g at by k) → Reach g (at n)
-  reach_along at by s zero edges = begin s
-  reach_along at by s (suc n) edges =
-      let e = edges n (omega arith) in
-      go (reach_along at by s n (λ k h. edges k (omega arith))) (by n, e.0, e.1)
 
   pub path_along : (at by : ℕ → ℕ) (d i j : ℕ) → i + d ≡ j → ((k : ℕ) → k < j → Goes g at by k) → Path g (at i) (at j)
   path_along at by zero i j e edges = let same : i ≡ j = omega arith in subst (λ x. Path g (at i) (at x)) same here
@@ -186,7 +184,7 @@ module _ (g : Graph) where
       let back = path_along l.at l.by (k - l.from) l.from k (omega arith) (λ i h. l.edges i (omega arith)) in (
         l.at k,
         record {
-          reached = reach_along l.at l.by l.starts k (λ i h. l.edges i (omega arith));
+          reached = reach_along l.at l.by (begin l.starts) k (λ i h. l.edges i (omega arith));
           marked = l.passes.3;
           cycle = (l.at (suc k), (l.by k, e.0, e.1), path_join g (l.at k) onward (subst (λ x. Path g x (l.at k)) l.closes back));
         },

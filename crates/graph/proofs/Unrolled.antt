@@ -10,7 +10,7 @@ use Rattle.graph.specs.Walks.{MarkedCycle}
 use Rattle.graph.specs.Witnesses.{MarkedLasso}
 use Rattle.graph.proofs.Loops.{Loop, loop_cycle}
 use Rattle.lasso.specs.Positions.{place}
-use Rattle.lasso.specs.Words.{letter}
+use Rattle.lasso.specs.Words.{letter, IsWord}
 use Rattle.lasso.proofs.Places.{place_first, place_below, place_laps, place_next, place_zero, after_next, after_last}
 
 -- an endless walk from a start that passes a marked node again and again
@@ -87,6 +87,17 @@ module _ (g : Graph) (l : Loop g) where
   position_letter k h =
       let inside : k < length loop_word = rw word_length h in
       rw (place_first (length loop_word) l.from k inside) (word_letter k h)
+
+  pub word_known : (k : ℕ) → k < length loop_word → get_or loop_word k 0 < g.letters
+  word_known k h = let low : k < l.to = rw word_length at h in rw (word_letter k low) (l.edges k low).0
+
+  -- a short loop's word is within the limits of words
+  pub word_good : l.to ≤ 131072 → IsWord g.letters loop_word l.from
+  word_good few =
+      record {
+        lasso = rw word_length (record { some_elements = omega (arith, l.goes); few_elements = few; loops = l.goes });
+        known = word_known;
+      }
 
   -- so it is a lasso of the graph by the letters of its word
   pub word_lasso : MarkedLasso g l.at (λ k. get_or loop_word k 0) (length loop_word) l.from

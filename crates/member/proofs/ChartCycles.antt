@@ -1,13 +1,12 @@
 -- A chart takes some word exactly if its own graph has a marked cycle: the word is read off a short loop.
-use Rattle.std.proofs.Common.{ℕ, suc, ◌<◌, ◌≤◌, List, length, refl, arith}
+use Rattle.std.proofs.Common.{ℕ, suc, ◌≤◌, List, refl, arith}
 use Rattle.std.proofs.lemmas.Bool.{ltb-true}
 use Rattle.chart.specs.Automata.{Automaton, Limits}
 use Rattle.graph.specs.Walks.{MarkedCycle, More}
-use Rattle.graph.proofs.Counting.{not_more}
+use Rattle.graph.proofs.Counting.{not_more, Placed}
 use Rattle.graph.proofs.Loops.{Loop, cycle_short_loop, loop_cycle}
 use Rattle.graph.proofs.Paths.{reach_node}
-use Rattle.graph.proofs.Unrolled.{loop_word, position_letter, walk_cycle, word_length, word_letter}
-use Rattle.lasso.specs.Positions.{IsLasso}
+use Rattle.graph.proofs.Unrolled.{loop_word, position_letter, walk_cycle, word_good, word_length}
 use Rattle.lasso.specs.Words.{Takes, Accepts, letter}
 use Rattle.lasso.proofs.Agreeing.{takes_accepts}
 use Rattle.member.specs.Bounds.{chart_bounded}
@@ -32,23 +31,22 @@ module _ (m : Automaton) where
 
   loop_taken : (l : Loop (chart_graph m)) → l.to ≤ 131072 → TakesSome m
   loop_taken l few =
-      let lasso : IsLasso (length (loop_word (chart_graph m) l)) l.from =
-      rw (word_length (chart_graph m) l) (record { some_elements = omega (arith, l.goes); few_elements = few; loops = l.goes }) in
+      let good = word_good (chart_graph m) l few in
       record {
         word = loop_word (chart_graph m) l;
         stem = l.from;
-        good =
-            record {
-              lasso = lasso;
-              known = λ k h. let low : k < l.to = rw (word_length (chart_graph m) l) at h in rw (word_letter (chart_graph m) l k low) (l.edges k low).0;
-            };
+        good = good;
         takes = loop_takes l;
-        accepts = takes_accepts m (loop_word (chart_graph m) l) l.from lasso.loops (loop_takes l);
+        accepts = takes_accepts m (loop_word (chart_graph m) l) l.from good.lasso.loops (loop_takes l);
       }
+
+  -- the chart's states are the places of all nodes
+  states_placed : Limits m → Placed (chart_graph m) m.states (λ i. i)
+  states_placed h v r = (v, ltb-true v m.states (reach_node (chart_graph m) (chart_bounded m h) v r), refl)
 
   pub cycle_taken : Limits m → MarkedCycle (chart_graph m) → TakesSome m
   cycle_taken h c =
-      let short = cycle_short_loop (chart_graph m) (chart_bounded m h) m.states (λ v e. ltb-true v m.states e) c in
+      let short = cycle_short_loop (chart_graph m) m.states (λ i. i) (states_placed h) c in
       loop_taken short.0 (omega (arith, short.1, h.size.few_states))
 
   pub takes_cycle : Limits m → (word : List ℕ) (stem : ℕ) → Takes m word stem → MarkedCycle (chart_graph m)
@@ -74,5 +72,4 @@ module _ (m : Automaton) where
   -- a chart's map has no more nodes than the chart has states
   pub not_more_states : Limits m → (n : ℕ) → m.states ≤ n → More (chart_graph m) n → ⊥
   not_more_states h n enough =
-      not_more (chart_graph m) n m.states (λ i. i) enough
-      (λ v r. (v, ltb-true v m.states (reach_node (chart_graph m) (chart_bounded m h) v r), refl))
+      not_more (chart_graph m) n m.states (λ i. i) enough (states_placed h)

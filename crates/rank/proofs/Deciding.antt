@@ -5,7 +5,7 @@ use Rattle.graph.specs.Walks.{MarkedCycle}
 use Rattle.graph.specs.Witnesses.{MarkedLasso}
 use Rattle.graph.proofs.Falling.{falling_none}
 use Rattle.graph.proofs.Loops.{cycle_loop}
-use Rattle.graph.proofs.Unrolled.{lasso_walk, loop_word, walk_cycle, word_lasso, word_length, word_letter}
+use Rattle.graph.proofs.Unrolled.{lasso_walk, loop_word, walk_cycle, word_known, word_lasso}
 use Rattle.lasso.specs.Positions.{place}
 use Rattle.lasso.specs.Words.{letter, Accepts}
 use Rattle.lasso.proofs.Agreeing.{accepts_takes, takes_accepts}
@@ -75,9 +75,7 @@ module _ (a b : Automaton) (charts : Charts a b) where
         word = loop_word g l;
         stem = l.from;
         loops = m.loops;
-        known =
-            λ k h. let low : k < l.to = rw (word_length g l) at h in
-            rw (word_letter g l k low) (l.edges k low).0;
+        known = word_known g l;
         alone = lasso_alone l.at (loop_word g l) l.from m;
       }
 
