@@ -156,7 +156,7 @@ def written():
     for part in text[text.index("examples =") : text.index("module _")].split("duty =")[1:]:
         cycle = re.search(r"cycle = (true|false)", part)[1] == "true"
         marked = set(numbers(re.search(r"marked = (.*);", part)[1]))
-        entries = re.findall(r"entry (\d+) (\d+)\s*\(([^)]*)\)", part)
+        entries = re.findall(r"entry (\d+) (\d+)\s*(?:\(([^)]*)\)|\[\])", part)
         examples.append((cycle, marked, {(int(n), int(m), tuple(numbers(after))) for n, m, after in entries}))
     return examples, numbers(re.search(r"first_nodes = (.*)", text)[1])
 
@@ -203,14 +203,19 @@ def main():
     every_second = Chart(2, 1, {0}, {1}, {(0, a, 1), (1, a, 0)})
     one_b = Chart(2, 2, {0}, {1}, {(0, b, 1), (1, a, 1)})
     few_b = Chart(2, 2, {0}, {1}, {(0, a, 0), (0, b, 0), (0, a, 1), (1, a, 1)})
+    no_start = Chart(1, 1, set(), set(), {(0, a, 0)})
+    still = [Chart(n, 1, {0}, set(), set()) for n in range(1, 7)]
     pairs = [
         (marked_loop, unmarked_loop),
         (marked_loop, marked_loop),
         (unmarked_loop, unmarked_loop),
         (marked_loop, every_second),
         (one_b, few_b),
+        (marked_loop, still[0]),
+        (marked_loop, no_start),
+        (still[0], unmarked_loop),
+        (no_start, unmarked_loop),
     ]
-    still = [Chart(n, 1, {0}, set(), set()) for n in range(1, 7)]
     firsts = [number(node) for rule in still for node in starts(marked_loop, rule)]
     assert ([told(*pair) for pair in pairs], firsts) == written()
     print(f"the {len(pairs)} examples agree, and the starts for {len(firsts)} rules")

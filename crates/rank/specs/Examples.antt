@@ -49,6 +49,13 @@ marked_loop = record { states = 1; letters = 1; starts = 0b1; marks = 0b1; rows 
 abbrev pub unmarked_loop : TableChart
 unmarked_loop = record { states = 1; letters = 1; starts = 0b1; marks = 0b0; rows = 0b1 ∷ [] }
 
+abbrev pub no_start : TableChart
+no_start = record { states = 1; letters = 1; starts = 0b0; marks = 0b0; rows = 0b1 ∷ [] }
+
+-- n states, of which the first is the start, and no steps
+abbrev pub still : ℕ → TableChart
+still n = record { states = n; letters = 1; starts = 0b1; marks = 0b0; rows = [] }
+
 -- two states in turn, of which the second is marked
 abbrev pub every_second : TableChart
 every_second = record { states = 2; letters = 1; starts = 0b01; marks = 0b10; rows = 0b10 ∷ 0b01 ∷ [] }
@@ -131,6 +138,38 @@ examples =
       others = [];
       cycle = false;
     }
+    ∷ record {
+      duty = marked_loop;
+      rule = still 1;
+      entries = entry 12288 0 (32 ∷ []) ∷ entry 32 0 (0 ∷ []) ∷ entry 0 0 (32 ∷ []) ∷ [];
+      marked = 32 ∷ [];
+      others = [];
+      cycle = true;
+    }
+    ∷ record {
+      duty = marked_loop;
+      rule = no_start;
+      entries = entry 0 0 (32 ∷ []) ∷ entry 32 0 (0 ∷ []) ∷ [];
+      marked = 32 ∷ [];
+      others = [];
+      cycle = true;
+    }
+    ∷ record {
+      duty = still 1;
+      rule = unmarked_loop;
+      entries = entry 12288 0 [] ∷ [];
+      marked = [];
+      others = [];
+      cycle = false;
+    }
+    ∷ record {
+      duty = no_start;
+      rule = unmarked_loop;
+      entries = [];
+      marked = [];
+      others = [];
+      cycle = false;
+    }
     ∷ []
 
 module _ (e : Example) where
@@ -163,11 +202,7 @@ pub record Holds (e : Example) : Type 0 where
       (FallingMeasures (graph_of e) (λ k. (entry_at e k).node) (λ k. (entry_at e k).measure) (length e.entries))
   pub words : MatchBool e.cycle (Differs (means e.duty) (means e.rule)) (Included (means e.duty) (means e.rule))
 
--- a rule of n states, of which the first is the start, and of no steps
-abbrev pub still : ℕ → TableChart
-still n = record { states = n; letters = 1; starts = 0b1; marks = 0b0; rows = [] }
-
--- the start of its ranked graph, for a rule of 1 state to one of 6
+-- the start of the marked loop's ranked graph with such a rule of 1 state to one of 6
 abbrev pub first_nodes : List ℕ
 first_nodes = 12288 ∷ 20480 ∷ 28672 ∷ 36864 ∷ 45056 ∷ 53248 ∷ []
 
