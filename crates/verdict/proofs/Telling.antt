@@ -1,0 +1,92 @@
+-- What a search of the ranked graph tells of the duty and the rule.
+use Rattle.std.proofs.Common.{◌≡◌, ℕ, ◌≤◌, List, length, Some, None, Option, refl, subst, sym, arith}
+use Rattle.std.specs.Prelude.{◌↔◌}
+use Rattle.chart.specs.Automata.{Automaton}
+use Rattle.fault.specs.declared.BenchFault.TheVariants.{Search}
+use Rattle.fault.specs.declared.SearchFault.{SearchFault}
+use Rattle.fault.specs.declared.SearchFault.TheVariants.{Table, Full}
+use Rattle.graph.specs.Graphs.{Graph}
+use Rattle.graph.specs.Walks.{Count, MarkedCycle, More}
+use Rattle.graph.proofs.Loops.{cycle_short_loop}
+use Rattle.graph.proofs.Unrolled.{loop_word, word_good, word_lasso}
+use Rattle.rank.specs.Containment.{Charts, Included, Differs}
+use Rattle.rank.specs.Ranked.{ranked_graph}
+use Rattle.rank.proofs.Deciding.{cycles_decide, lassos_tell}
+use Rattle.search.specs.Surveys.{Allowed, Collected, Refused, Surveyed, Told}
+use Rattle.search.specs.Tables.{node_at}
+use Rattle.search.specs.declared.records.Record.{Record}
+use Rattle.search.specs.declared.surveys.Findings.{Findings}
+use Rattle.verdict.specs.Verdicts.{Decides, DecideRefused, Forbidden, IsVerdict, kind_of, verdict_of}
+use Rattle.verdict.specs.declared.verdicts.Kind.{Kind}
+use Rattle.verdict.specs.declared.verdicts.Kind.TheVariants.{Keep, Break}
+use Rattle.verdict.specs.declared.verdicts.Verdict.{Verdict}
+
+-- a marked cycle among few nodes has a short loop, whose letters are the word
+pub cycle_forbidden : (a b : Automaton) → Charts a b → (n : ℕ) → n ≤ 65536 → Count (ranked_graph a b) n → MarkedCycle (ranked_graph a b) → Forbidden a b
+cycle_forbidden a b charts n few count cycle =
+    let g = ranked_graph a b in
+    let (l, short) = cycle_short_loop g n count.at count.whole cycle in
+    record {
+      word = loop_word g l;
+      stem = l.from;
+      good = word_good g l (omega (arith, short));
+      alone = lassos_tell a b charts l.at (loop_word g l) l.from (word_lasso g l);
+    }
+
+collected_count : (g : Graph) (n : ℕ) (work : List Record) → Collected g n work → Count g n
+collected_count g n work c = record { at = node_at work; apart = c.apart; reached = c.reached; whole = c.whole }
+
+told_verdict : (a b : Automaton) → Charts a b → (n : ℕ) → n ≤ 65536 → Count (ranked_graph a b) n → (work : List Record) (found : Option ℕ)
+    → Told (ranked_graph a b) n work found → IsVerdict a b (kind_of found)
+told_verdict a b charts n few count work None (none, measures) = (cycles_decide a b charts).included none
+told_verdict a b charts n few count work (Some v) cycle = cycle_forbidden a b charts n few count (v, cycle)
+
+forbidden_differs : (a b : Automaton) → Forbidden a b → Differs a b
+forbidden_differs a b f =
+    record { word = f.word; stem = f.stem; loops = f.good.lasso.loops; known = f.good.known; alone = f.alone }
+
+not_included : (a b : Automaton) → Differs a b → Included a b → ⊥
+not_included a b d all = d.alone.rejected (all d.word d.stem d.loops d.alone.taken)
+
+-- so a verdict of either kind tells exactly whether the two differ
+breaks_exactly : (a b : Automaton) (k : Kind) → IsVerdict a b k → (k ≡ Break) ↔ Differs a b
+breaks_exactly a b Break f = (λ e. forbidden_differs a b f, λ d. refl)
+breaks_exactly a b Keep all = (λ e. absurd (cc), λ d. absurd (not_included a b d all))
+
+keeps_exactly : (a b : Automaton) (k : Kind) → IsVerdict a b k → (k ≡ Keep) ↔ Included a b
+keeps_exactly a b Break f = (λ e. absurd (cc), λ all. absurd (not_included a b (forbidden_differs a b f) all))
+keeps_exactly a b Keep all = (λ e. all, λ x. refl)
+
+-- a search of the ranked graph of two charts that mean the same
+module _ (a b a' b' : Automaton) (same_duty : a' ≡ a) (same_rule : b' ≡ b) (g : Graph) (same : g ≡ ranked_graph a' b') where
+  moved : (P : Graph → Type 0) → P g → P (ranked_graph a b)
+  moved P x =
+      subst (λ r. P (ranked_graph a r)) same_rule (subst (λ d. P (ranked_graph d b')) same_duty (subst P same x))
+
+  pub answer_decide : Charts a b → a.letters ≡ b.letters → (room n : ℕ) → Allowed room → n ≡ room → (work : List Record) → length work ≡ n
+      → (found : Findings) (v : Verdict) → v ≡ verdict_of found → Surveyed g work found → Decides a b room n v
+  answer_decide charts letters room n allowed table work len found v is s' =
+      let s = moved (λ x. Surveyed x work found) s' in
+      let count = collected_count (ranked_graph a b) found.count work s.collected in
+      let told = told_verdict a b charts found.count (omega (arith, s.collected.fits, allowed.few_records)) count work found.witness s.told in
+      rw is (record {
+        letters = letters;
+        few_states = charts.few_states;
+        allowed = allowed;
+        table = table;
+        count = count;
+        fits = omega (arith, s.collected.fits);
+        told = told;
+        breaks = breaks_exactly a b (kind_of found.witness) told;
+        keeps = keeps_exactly a b (kind_of found.witness) told;
+      })
+
+  pub too_many : (room : ℕ) (was work : List Record) → length was ≡ room → Refused g was work Full → More (ranked_graph a b) room
+  too_many room was work len r = subst (More (ranked_graph a b)) len (moved (λ x. More x (length was)) r.1)
+
+  -- a refusal of the search, once the rest is in order
+  pub refused_decide : a.letters ≡ b.letters → b.states ≤ 6 → (room : ℕ) → Allowed room → (was work : List Record) → length was ≡ room
+      → (e : SearchFault) → Refused g was work e → DecideRefused a b room was work (Search e)
+  refused_decide letters few room allowed was work len Table (none, same) =
+      (letters, few, λ both. none (subst Allowed (sym len) both.0), same)
+  refused_decide letters few room allowed was work len Full r = (letters, few, allowed, len, too_many room was work len r)

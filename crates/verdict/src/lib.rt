@@ -1,0 +1,8 @@
+// Whether the rule takes every repeating word that the duty takes, as the ranked graph of the two charts tells it.
+#![tactic(auto)]
+
+mod examples;
+mod verdicts;
+
+pub use examples::examples_hold;
+pub use verdicts::{Kind, Verdict};
