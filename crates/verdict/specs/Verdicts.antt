@@ -3,6 +3,7 @@ use Rattle.std.specs.Prelude.{◌≡◌, ℕ, ◌<◌, ◌≤◌, ◌↔◌, Lis
 use Rattle.chart.specs.Automata.{Automaton}
 use Rattle.fault.specs.declared.BenchFault.{BenchFault}
 use Rattle.fault.specs.declared.BenchFault.TheVariants as faults
+use Rattle.fault.specs.declared.SearchFault.{SearchFault}
 use Rattle.fault.specs.declared.SearchFault.TheVariants.{Table, Full}
 use Rattle.graph.specs.Walks.{Count, More}
 use Rattle.lasso.specs.Words.{IsWord}
@@ -47,12 +48,17 @@ pub record Decides (a b : Automaton) (room n : ℕ) (v : Verdict) : Type 0 where
   pub breaks : (v.kind ≡ Break) ↔ Differs a b
   pub keeps : (v.kind ≡ Keep) ↔ Included a b
 
+-- a room, and the number of records of the work table
+abbrev pub RoomRefused : ℕ → ℕ → SearchFault → Type 0
+RoomRefused room n Table = Allowed room × (n ≡ room) → ⊥
+RoomRefused room n Full = ⊥
+
 -- Refused: 5 comes before 6, 6 before 7, and 7 before 13; but for 13 the table is as it was.
 abbrev pub DecideRefused : Automaton → Automaton → ℕ → List Record → List Record → BenchFault → Type 0
 DecideRefused a b room was work (faults.Chart e) = ⊥
 DecideRefused a b room was work faults.Letters = (a.letters ≡ b.letters → ⊥) × (work ≡ was)
 DecideRefused a b room was work faults.States = (a.letters ≡ b.letters) × (6 < b.states) × (work ≡ was)
 DecideRefused a b room was work (faults.Search Table) =
-    (a.letters ≡ b.letters) × (b.states ≤ 6) × (Allowed room × (length was ≡ room) → ⊥) × (work ≡ was)
+    (a.letters ≡ b.letters) × (b.states ≤ 6) × RoomRefused room (length was) Table × (work ≡ was)
 DecideRefused a b room was work (faults.Search Full) =
     (a.letters ≡ b.letters) × (b.states ≤ 6) × Allowed room × (length was ≡ room) × More (ranked_graph a b) room
