@@ -1,2 +1,5 @@
-pub mod Reports
+pub mod Readings
+pub mod Sheets
 pub mod Shown
+pub mod Listed
+pub mod Ruled

@@ -1,6 +1,12 @@
-// What the program says of two chart texts.
+// What the programs say of two chart texts.
 #![tactic(auto)]
 
-mod reports;
+mod listings;
+mod refusals;
+mod rulings;
+mod sheets;
 
-pub use reports::{LIMIT, Refusal, Report, Side, Summaries, Summary, read_texts};
+pub use listings::{Listing, Summaries, Summary, list_texts};
+pub use refusals::{Refusal, Side};
+pub use rulings::{ROOM, Report, decide_texts};
+pub use sheets::LIMIT;

@@ -1,22 +1,19 @@
 -- What a search of the ranked graph tells of the duty and the rule.
-use Rattle.std.proofs.Common.{◌≡◌, ℕ, ◌≤◌, List, length, Some, None, Option, refl, subst, sym, arith}
+use Rattle.std.proofs.Common.{◌≡◌, ℕ, ◌≤◌, List, length, Some, None, Option, refl, subst, arith}
 use Rattle.std.specs.Prelude.{◌↔◌}
 use Rattle.chart.specs.Automata.{Automaton}
-use Rattle.fault.specs.declared.BenchFault.TheVariants.{Search}
-use Rattle.fault.specs.declared.SearchFault.{SearchFault}
-use Rattle.fault.specs.declared.SearchFault.TheVariants.{Table, Full}
 use Rattle.graph.specs.Graphs.{Graph}
-use Rattle.graph.specs.Walks.{Count, MarkedCycle, More}
+use Rattle.graph.specs.Walks.{Count, MarkedCycle}
 use Rattle.graph.proofs.Loops.{cycle_short_loop}
 use Rattle.graph.proofs.Unrolled.{loop_word, word_good, word_lasso}
 use Rattle.rank.specs.Containment.{Charts, Included, Differs}
 use Rattle.rank.specs.Ranked.{ranked_graph}
 use Rattle.rank.proofs.Deciding.{cycles_decide, lassos_tell}
-use Rattle.search.specs.Surveys.{Allowed, Collected, Refused, Surveyed, Told}
+use Rattle.search.specs.Surveys.{Allowed, Collected, Surveyed, Told}
 use Rattle.search.specs.Tables.{node_at}
 use Rattle.search.specs.declared.records.Record.{Record}
 use Rattle.search.specs.declared.surveys.Findings.{Findings}
-use Rattle.verdict.specs.Verdicts.{Decides, DecideRefused, Forbidden, IsVerdict, kind_of, verdict_of}
+use Rattle.verdict.specs.Verdicts.{Decides, Forbidden, IsVerdict, kind_of, verdict_of}
 use Rattle.verdict.specs.declared.verdicts.Kind.{Kind}
 use Rattle.verdict.specs.declared.verdicts.Kind.TheVariants.{Keep, Break}
 use Rattle.verdict.specs.declared.verdicts.Verdict.{Verdict}
@@ -80,13 +77,3 @@ module _ (a b a' b' : Automaton) (same_duty : a' ≡ a) (same_rule : b' ≡ b) (
         breaks = breaks_exactly a b (kind_of found.witness) told;
         keeps = keeps_exactly a b (kind_of found.witness) told;
       })
-
-  pub too_many : (room : ℕ) (was work : List Record) → length was ≡ room → Refused g was work Full → More (ranked_graph a b) room
-  too_many room was work len r = subst (More (ranked_graph a b)) len (moved (λ x. More x (length was)) r.1)
-
-  -- a refusal of the search, once the rest is in order
-  pub refused_decide : a.letters ≡ b.letters → b.states ≤ 6 → (room : ℕ) → Allowed room → (was work : List Record) → length was ≡ room
-      → (e : SearchFault) → Refused g was work e → DecideRefused a b room was work (Search e)
-  refused_decide letters few room allowed was work len Table (none, same) =
-      (letters, few, λ both. none (subst Allowed (sym len) both.0), same)
-  refused_decide letters few room allowed was work len Full r = (letters, few, allowed, len, too_many room was work len r)

@@ -1,4 +1,4 @@
-use Rattle.std.proofs.Common.{refl, sym}
+use Rattle.std.proofs.Common.{refl}
 use Rattle.rank.specs.Ranked.{ranked_graph}
 use Rattle.ranked.specs.Maps.{duty_of, rule_of}
 use Rattle.verdict.proofs.Telling.{answer_decide}

@@ -1,0 +1,47 @@
+// The verdict on two chart texts.
+ghost use Rattle.std.specs.Prelude.{Some, MatchResult};
+ghost use Rattle.report.specs.Readings.{FirstRefused};
+ghost use Rattle.report.specs.Ruled.{Rules, RulingRefused, Reports, report_text};
+
+use crate::refusals::{Refusal, Side};
+use crate::sheets::Sheet;
+use fault::BenchFault;
+use std::fmt;
+use verdict::{Record, Verdict, decide};
+
+// What the program prints.
+#[derive(Clone, Copy, PartialEq, Eq, Debug)]
+pub struct Report(pub Result<Verdict, Refusal>);
+
+impl fmt::Display for Report {
+    ghost output = { λ r. Some (report_text r) };
+
+    fn fmt<W: fmt::Write>(&self, f: &mut fmt::Formatter<W>) -> fmt::Result {
+        match &self.0 {
+            Ok(verdict) => verdict.fmt(f),
+            Err(refusal) => refusal.fmt(f),
+        }
+    }
+}
+
+// The most nodes that the program searches.
+pub const ROOM: usize = 512;
+
+fn rule_on(duty: &[u8], rule: &[u8]) -> Result<Verdict, Refusal>
+    ensures { MatchResult result (Rules duty.now rule.now) (FirstRefused duty.now rule.now RulingRefused) }
+{
+    let duty = Side::Duty.read(duty)?;
+    let rule = Side::Rule.read(rule)?;
+    let mut work = [Record::default(); ROOM];
+    decide(&duty.table(), &rule.table(), ROOM, &mut work).map_err(|fault| Refusal {
+        side: Side::Bench,
+        fault,
+    })
+}
+
+// Reads the duty's text, then the rule's, and decides whether the rule takes all that the duty takes.
+pub fn decide_texts(duty: &[u8], rule: &[u8]) -> Report
+    ensures { Reports duty.now rule.now result }
+{
+    Report(rule_on(duty, rule))
+}
