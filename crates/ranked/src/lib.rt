@@ -6,6 +6,7 @@ mod making;
 mod maps;
 mod nodes;
 mod offers;
+mod questions;
 mod sets;
 mod snapshots;
 

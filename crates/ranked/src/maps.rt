@@ -1,9 +1,6 @@
-// The ranked graph of two charts as a map. A node's successors by a letter are told by a choice for each of their parts, so
-// the least of them is found without going through the others.
+// The ranked graph of two charts as a map.
 ghost use Rattle.std.specs.Prelude.{◌≡◌, ◌≤◌};
 
-use crate::choices::Choices;
-use crate::nodes::Parts;
 use crate::snapshots::Snapshot;
 use graph::Map;
 use lasso::Word;
@@ -35,28 +32,18 @@ impl Map for RankedMap {
     }
 
     fn is_start(&self, word: Word<'_>, v: u64) -> bool {
-        self.starts().has(v)
+        self.has_start(v)
     }
 
     fn is_marked(&self, word: Word<'_>, v: u64) -> bool {
-        if !self.has_node(v) {
-            return false;
-        }
-        let node = Parts::read(v);
-        node.turn && node.owed == 0
+        self.has_mark(v)
     }
 
     fn least_start(&self, word: Word<'_>, from: u64) -> Option<u64> {
-        self.starts().least(from)
+        self.first_start(from)
     }
 
     fn least_next(&self, word: Word<'_>, v: u64, letter: u8, from: u64) -> Option<u64> {
-        if !self.has_node(v) {
-            return None;
-        }
-        if letter >= self.duty.letters {
-            return None;
-        }
-        self.successors(Parts::read(v), letter).least(from)
+        self.first_next(v, letter, from)
     }
 }

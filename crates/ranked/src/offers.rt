@@ -125,7 +125,7 @@ impl RankedMap {
     }
 
     // The node itself, if it is one.
-    fn around(&self, node: Parts) -> Choices
+    pub(crate) fn around(&self, node: Parts) -> Choices
         ensures { (v : ℕ) → Reads v node → NodeOffered (rule_of self.now) (parts v) result }
     {
         Choices {
@@ -147,14 +147,6 @@ impl RankedMap {
             turn: self.next_turn(node),
             duty: self.duty.steps(node.duty % 32, letter),
         }
-    }
-
-    // Is v a node?
-    pub(crate) fn has_node(&self, v: u64) -> bool
-        ensures { result ≡ is_number (duty_of self.now) (rule_of self.now) v }
-    {
-        let node = Parts::read(v);
-        node.duty < self.duty.states && self.around(node).has(v)
     }
 }
 

@@ -2,7 +2,7 @@ use Rattle.std.proofs.Common.{◌∙◌}
 use Rattle.ranked.specs.Bounds.{charts_of}
 use Rattle.ranked.specs.Maps.{duty_of, rule_of}
 use Rattle.ranked.proofs.Matching.{starts_chosen}
-use Rattle.ranked.proofs.maps.RankedMapMap.is_start.Goals as goal
+use Rattle.ranked.proofs.maps.RankedMap.has_start.Goals as goal
 
 pub returns : goal.returns
 returns c =

@@ -5,7 +5,7 @@ use Rattle.ranked.specs.Bounds.{charts_of}
 use Rattle.ranked.specs.Choices.{chosen}
 use Rattle.ranked.specs.Maps.{duty_of, rule_of}
 use Rattle.ranked.proofs.Matching.{next_chosen}
-use Rattle.ranked.proofs.maps.RankedMapMap.least_next.Goals as goal
+use Rattle.ranked.proofs.maps.RankedMap.first_next.Goals as goal
 
 pub returns : goal.returns
 returns c =

@@ -4,7 +4,7 @@ use Rattle.ranked.specs.Bounds.{charts_of}
 use Rattle.ranked.specs.Choices.{chosen}
 use Rattle.ranked.specs.Maps.{duty_of, rule_of}
 use Rattle.ranked.proofs.Matching.{starts_chosen}
-use Rattle.ranked.proofs.maps.RankedMapMap.least_start.Goals as goal
+use Rattle.ranked.proofs.maps.RankedMap.first_start.Goals as goal
 
 pub returns : goal.returns
 returns c =

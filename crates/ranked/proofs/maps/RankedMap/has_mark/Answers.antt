@@ -2,7 +2,7 @@ use Rattle.std.proofs.Common.{◌&&◌, eqb, ap, sym, ◌∙◌}
 use Rattle.ranked.specs.Bounds.{charts_of}
 use Rattle.ranked.specs.Maps.{duty_of, rule_of}
 use Rattle.ranked.proofs.Owing.{marked_bits}
-use Rattle.ranked.proofs.maps.RankedMapMap.is_marked.Goals as goal
+use Rattle.ranked.proofs.maps.RankedMap.has_mark.Goals as goal
 
 pub returns-then-node : goal.returns-then-node
 returns-then-node c =
