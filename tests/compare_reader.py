@@ -1,7 +1,7 @@
 #!/usr/bin/env python3
 """Compares the program with a reader of its own on random chart texts, many of them damaged.
 
-Build the program first (rt run in crates/carver), then: python3 tests/compare_reader.py [pairs] [seed]
+Build the program first (rt run in crates/overview), then: python3 tests/compare_reader.py [pairs] [seed]
 The reader below is written from docs/FORMAT.md alone, by regular expressions, and emptiness is decided by sets of the
 states that steps lead to. Not part of the gate.
 """
@@ -13,7 +13,7 @@ import tempfile
 from collections import Counter
 from pathlib import Path
 
-PROGRAM = Path(__file__).resolve().parent.parent / "crates/carver/out/carver"
+PROGRAM = Path(__file__).resolve().parent.parent / "crates/overview/out/overview"
 NUMBER = r"(0|[1-9][0-9]?)"
 STATE = re.compile(NUMBER + r" ([>.]) ([*.])")
 STEP = re.compile(NUMBER + r" ([a-z#]) " + NUMBER)
