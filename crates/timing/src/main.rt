@@ -3,6 +3,9 @@
 #![tactic(auto)]
 
 mod bands;
+mod charts;
+mod pairs;
+mod walks;
 
 use anyhow::anyhow;
 use bands::Band;
@@ -73,6 +76,7 @@ fn is_asked(rt: &HostRuntime) -> io::Result<bool> {
 fn run(rt: &HostRuntime) -> anyhow::Result<()> {
     if is_asked(rt)? {
         figures(rt)?;
+        pairs::figures(rt)?;
     }
     Ok(())
 }

@@ -1,0 +1,89 @@
+// Tells how long the ranked graphs of the pairs take: to make the map, to search it, and to ask it for each edge.
+use crate::charts::{PAIRS, Pair, Sheet};
+use crate::walks::count_edges;
+use anyhow::anyhow;
+use chart::Table;
+use lasso::NO_WORD;
+use ranked::RankedMap;
+use search::{Findings, Record, survey};
+use std::time::Instant;
+
+fn table(sheet: &Sheet) -> anyhow::Result<Table<'static>> {
+    Table::new(
+        sheet.states,
+        sheet.letters,
+        sheet.starts,
+        sheet.marks,
+        sheet.rows,
+    )
+    .map_err(|_| anyhow!("the chart is refused"))
+}
+
+// The map, and the microseconds that it took to make.
+fn make(rt: &HostRuntime, pair: &Pair) -> anyhow::Result<(RankedMap, u128)> {
+    let duty = table(&pair.duty)?;
+    let rule = table(&pair.rule)?;
+    let begun = Instant::now(rt)?;
+    let map = RankedMap::new(&duty, &rule);
+    let spent = begun.elapsed(rt)?.as_micros();
+    Ok((map.map_err(|_| anyhow!("the pair is refused"))?, spent))
+}
+
+// What one search finds, and the microseconds that it took.
+fn search_once(
+    rt: &HostRuntime,
+    map: &RankedMap,
+    work: &mut [Record],
+) -> anyhow::Result<(Findings, u128)> {
+    let begun = Instant::now(rt)?;
+    let found = survey(map, NO_WORD, work);
+    let spent = begun.elapsed(rt)?.as_micros();
+    Ok((found.map_err(|_| anyhow!("the search is refused"))?, spent))
+}
+
+// The number of edges that leave the nodes, and the microseconds that it took to ask for each.
+fn walk(rt: &HostRuntime, map: &RankedMap, nodes: &[Record]) -> anyhow::Result<(u64, u128)> {
+    let begun = Instant::now(rt)?;
+    let edges = count_edges(map, nodes);
+    let spent = begun.elapsed(rt)?.as_micros();
+    Ok((edges, spent))
+}
+
+// The same for the median of five searches, if the first takes less than a tenth of a second.
+fn search(
+    rt: &HostRuntime,
+    map: &RankedMap,
+    work: &mut [Record],
+) -> anyhow::Result<(Findings, u128)> {
+    let (found, first) = search_once(rt, map, work)?;
+    let mut times = [first; 5];
+    if first < 100_000 {
+        for time in times.iter_mut().skip(1) {
+            *time = search_once(rt, map, work)?.1;
+        }
+        times.sort_unstable();
+    }
+    Ok((found, times[2]))
+}
+
+// A pair's line. The search has a table of 65,536 records.
+fn time(rt: &HostRuntime, pair: &Pair) -> anyhow::Result<()> {
+    let (map, making) = make(rt, pair)?;
+    let mut work = vec![in rt.alloc(); Record::default(); 65_536]?;
+    let (found, searching) = search(rt, &map, work.as_mut_slice())?;
+    let nodes = work.get(..found.count).unwrap_or_default();
+    let (edges, walking) = walk(rt, &map, nodes)?;
+    let name = pair.name;
+    let count = found.count;
+    let marked = if found.witness.is_some() { "yes" } else { "no" };
+    println!(rt; "{name} {count} {edges} {marked} {making} {searching} {walking}")?;
+    Ok(())
+}
+
+pub fn figures(rt: &HostRuntime) -> anyhow::Result<()> {
+    println!(rt; "graph nodes edges marked-cycle map-us search-us walk-us")?;
+    for pair in &PAIRS {
+        time(rt, pair)?;
+    }
+    Ok(())
+}
