@@ -1,9 +1,7 @@
 -- What the least number that passes a test tells, and how it is found.
-use Rattle.std.proofs.Common.{◌≡◌, ℕ, ◌<◌, ◌≤◌, ◌≢◌, Bool, true, false, List, Some, None, Option, MatchOption, eqb, sym, ◌∙◌, subst, ⊎_elim, arith}
+use Rattle.std.proofs.Common.{◌≡◌, ℕ, ◌<◌, ◌≤◌, ◌≢◌, Bool, true, false, List, Some, None, Option, MatchOption, subst}
 use mathlib.Core.Path.{fun_ext}
 use Rattle.std.specs.declared.ops.Range.{Range}
-use Rattle.std.specs.Option.{option_eq}
-use Rattle.std.proofs.lemmas.Bool.{cases_eq, eq-eqb, false_from_ne_true, ne_eqb}
 use Rattle.std.specs.Fn.{CalledAt}
 use Rattle.std.specs.Iterator.{YieldsThen}
 use Rattle.std.specs.List.{FoldsTo}
@@ -12,14 +10,6 @@ use Rattle.std.proofs.lemmas.Iterator.{first_from_Range}
 use denote.Param.Members.{Mut}
 use denote.Ref.{Bor}
 use Rattle.graph.specs.Least.{Least}
-
--- the least from v on is v exactly if v passes
-pub least_itself : (P : ℕ → Bool) (v : ℕ) (r : Option ℕ) → Least P v r → option_eq eqb r (Some v) ≡ P v
-least_itself P v None none = sym (false_from_ne_true (P v) (none v (omega arith)))
-least_itself P v (Some u) (low, passes, least) =
-    ⊎_elim (λ (e : u ≡ v). eq-eqb u v e ∙ sym (subst (λ x. P x ≡ true) e passes))
-    (λ differ. ne_eqb u v differ ∙ sym (false_from_ne_true (P v) (least v (omega arith) (omega arith))))
-    (cases_eq u v)
 
 -- tests that answer alike have the same least
 pub least_same : (P Q : ℕ → Bool) (from : ℕ) (r : Option ℕ) → ((v : ℕ) → P v ≡ Q v) → Least P from r → Least Q from r
