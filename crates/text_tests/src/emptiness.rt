@@ -1,12 +1,12 @@
-// Whether a chart takes no word, as the report tells it.
-use report::{Report, read_texts};
+// Whether a chart takes no word, as the listing tells it.
+use report::{Listing, list_texts};
 use std::alloc::{AllocError, Global};
 use std::test::Fail;
 
 // Is the duty told to take no word? None where a text is refused.
 fn is_empty(duty: &str) -> Option<bool> {
     let rule = "letters\n1\nstate start mark\n0 > *\nfrom by to\n0 a 0\n";
-    let Report(told) = read_texts(duty.as_bytes(), rule.as_bytes());
+    let Listing(told) = list_texts(duty.as_bytes(), rule.as_bytes());
     told.ok().map(|summaries| summaries.duty.empty)
 }
 

@@ -1,5 +1,5 @@
-// The report on two texts, byte for byte.
-use report::read_texts;
+// What is listed of two texts, byte for byte.
+use report::list_texts;
 use std::alloc::{AllocError, Global};
 use std::test::Fail;
 
@@ -15,8 +15,8 @@ const RANGE: &str = "letters\n17\n";
 // Of the wrong form at line 4.
 const FORM: &str = "letters\n1\nstate start mark\n0 * >\n";
 
-fn report(heap: Global, duty: &str, rule: &str) -> Result<String, AllocError> {
-    read_texts(duty.as_bytes(), rule.as_bytes()).to_string(heap)
+fn listing(heap: Global, duty: &str, rule: &str) -> Result<String, AllocError> {
+    list_texts(duty.as_bytes(), rule.as_bytes()).to_string(heap)
 }
 
 // One state, so many letters, and 1,358 steps of 6 bytes each. The head has 43 bytes and those of the number.
@@ -33,12 +33,12 @@ fn long(heap: Global, letters: &str) -> Result<String, AllocError> {
 #[test]
 fn both_read(rt: HostRuntime) -> Result<(), Fail> {
     let heap = rt.alloc();
-    let first = report(heap, DUTY, RULE)?;
+    let first = listing(heap, DUTY, RULE)?;
     assert_eq!(rt;
         first.as_str(),
         "chart states letters empty\nduty 2 3 yes\nrule 1 16 no\n"
     );
-    let second = report(heap, RULE, DUTY)?;
+    let second = listing(heap, RULE, DUTY)?;
     assert_eq!(rt;
         second.as_str(),
         "chart states letters empty\nduty 1 16 no\nrule 2 3 yes\n"
@@ -50,15 +50,15 @@ fn both_read(rt: HostRuntime) -> Result<(), Fail> {
 #[test]
 fn one_refused(rt: HostRuntime) -> Result<(), Fail> {
     let heap = rt.alloc();
-    let duty = report(heap, RANGE, RULE)?;
+    let duty = listing(heap, RANGE, RULE)?;
     assert_eq!(rt; duty.as_str(), "refused at place\n2 duty 2\n");
-    let rule = report(heap, DUTY, FORM)?;
+    let rule = listing(heap, DUTY, FORM)?;
     assert_eq!(rt; rule.as_str(), "refused at place\n1 rule 4\n");
-    let both = report(heap, FORM, RANGE)?;
+    let both = listing(heap, FORM, RANGE)?;
     assert_eq!(rt; both.as_str(), "refused at place\n1 duty 4\n");
-    let other = report(heap, RANGE, FORM)?;
+    let other = listing(heap, RANGE, FORM)?;
     assert_eq!(rt; other.as_str(), "refused at place\n2 duty 2\n");
-    let empty = report(heap, DUTY, "")?;
+    let empty = listing(heap, DUTY, "")?;
     assert_eq!(rt; empty.as_str(), "refused at place\n1 rule 1\n");
     Ok(())
 }
@@ -69,7 +69,7 @@ fn longest(rt: HostRuntime) -> Result<(), Fail> {
     let heap = rt.alloc();
     let most = long(heap, "1")?;
     assert_eq!(rt; most.len(), 8192);
-    let read = report(heap, most.as_str(), most.as_str())?;
+    let read = listing(heap, most.as_str(), most.as_str())?;
     assert_eq!(rt;
         read.as_str(),
         "chart states letters empty\nduty 1 1 no\nrule 1 1 no\n"
@@ -83,14 +83,14 @@ fn longer(rt: HostRuntime) -> Result<(), Fail> {
     let heap = rt.alloc();
     let beyond = long(heap, "10")?;
     assert_eq!(rt; beyond.len(), 8193);
-    let duty = report(heap, beyond.as_str(), RULE)?;
+    let duty = listing(heap, beyond.as_str(), RULE)?;
     assert_eq!(rt; duty.as_str(), "refused at place\n1 duty 0\n");
-    let rule = report(heap, DUTY, beyond.as_str())?;
+    let rule = listing(heap, DUTY, beyond.as_str())?;
     assert_eq!(rt; rule.as_str(), "refused at place\n1 rule 0\n");
     let wrong = long(heap, "17")?;
-    let whole = report(heap, DUTY, wrong.as_str())?;
+    let whole = listing(heap, DUTY, wrong.as_str())?;
     assert_eq!(rt; whole.as_str(), "refused at place\n1 rule 0\n");
-    let first = report(heap, FORM, beyond.as_str())?;
+    let first = listing(heap, FORM, beyond.as_str())?;
     assert_eq!(rt; first.as_str(), "refused at place\n1 duty 4\n");
     Ok(())
 }
