@@ -89,6 +89,11 @@ next_ranked b rank l p q s (Some r) e h is step =
     let here = all_at b.states low (and_parts (follows b (λ p. is_some (rank p)) l q) (all_below b.states low) e).1 p h in
     (r, refl, rank_at_most b rank l p q s r is step here)
 
+-- a state that has a rank after a step follows one that had
+pub next_follows : (b : Automaton) (rank : ℕ → Option ℕ) (l q r : ℕ) → is_next_rank b rank l q (Some r) ≡ true → follows b (λ p. is_some (rank p)) l q ≡ true
+next_follows b rank l q r e =
+    (and_parts (follows b (λ p. is_some (rank p)) l q) (all_below b.states (λ p. not (b.step p l q) || at_most r (rank p))) e).0
+
 low_value : (r : ℕ) (o : Option ℕ) → ((s : ℕ) → o ≡ Some s → r ≤ s) → at_most r o ≡ true
 low_value r None low = refl
 low_value r (Some s) low = le-leb r s (low s refl)

@@ -1,8 +1,9 @@
 -- Nodes and their numbers correspond: each part is read from its own bits.
-use Rattle.std.proofs.Common.{◌≡◌, ℕ, ◌+◌, ◌*◌, ◌^◌, ◌<◌, ◌≤◌, Bool, true, false, ◌&&◌, Option, Some, None, ◌∙◌, ⊎_elim, sym, ap, refl, subst, eqb, ltb, arith}
+use Rattle.std.proofs.Common.{◌≡◌, ℕ, zero, suc, ◌+◌, ◌*◌, ◌%◌, ◌^◌, ◌<◌, ◌≤◌, Bool, true, false, ◌&&◌, Option, Some, None, ◌∙◌, ⊎_elim, sym, ap, refl, subst, eqb, ltb, arith}
 use Rattle.std.proofs.Math.Nat.{one-mul}
 use Rattle.std.proofs.Math.Pow.{pow_mono}
 use Rattle.std.proofs.lemmas.Bool.{and_left, and_right, both_ways, cases_lt, false_from_ne_true, false≢true, le-ltb, lt-ltb}
+use Rattle.std.proofs.lemmas.Bool.Decides.{nat_tests}
 use Rattle.chart.specs.Automata.{Automaton}
 use Rattle.rank.specs.Layout.{bits, fields, flag, held, number, parts, rank_held}
 use Rattle.rank.specs.Nodes.{Node}
@@ -24,6 +25,19 @@ flag_read false = refl
 pub rank_read : (r : Option ℕ) → rank_held (held r) ≡ r
 rank_read None = refl
 rank_read (Some r) = refl
+
+-- four bits that hold an odd number tell an even rank
+pub odd_even : (r : Option ℕ) → eqb (held r % 2) 1 ≡ has_even r
+odd_even None = refl
+odd_even (Some r) = grind (arith, nat_tests)
+
+pub even_held : (d : ℕ) → eqb (d % 2) 1 ≡ has_even (rank_held d)
+even_held zero = refl
+even_held (suc r) = odd_even (Some r)
+
+pub held_read : (d : ℕ) → held (rank_held d) ≡ d
+held_read zero = refl
+held_read (suc d) = refl
 
 -- The parts of a node for a rule of n states fit their bits.
 pub record Fits (n : ℕ) (x : Node) : Type 0 where

@@ -8,13 +8,12 @@ use Rattle.rank.specs.Nodes.{Node}
 use Rattle.rank.specs.Ranked.{is_number, ranked_graph}
 use Rattle.rank.specs.Rules.{follows, has_even, is_empty, is_first_rank, is_next_rank, next_turn}
 use Rattle.rank.proofs.Implied.{alike}
-use Rattle.rank.proofs.Laws.{empty_from, empty_none, first_none, first_start, follows_some, next_none}
+use Rattle.rank.proofs.Laws.{empty_from, empty_none, first_none, first_start, follows_some, next_follows, next_none}
 use Rattle.rank.proofs.Tests.{edge_holds, edge_test, first_holds, first_test, number_holds, start_number}
 use Rattle.ranked.specs.declared.choices.Choices.{Choices}
 use Rattle.ranked.specs.Choices.{chosen}
-use Rattle.ranked.specs.Tests.{is_within, StartsOffered, NodeOffered, NextOffered}
+use Rattle.ranked.specs.Offered.{is_within, StartsOffered, NodeOffered, NextOffered}
 use Rattle.ranked.proofs.Offering.{chosen_passes, passes_chosen}
-use Rattle.ranked.proofs.Ranking.{next_follows}
 
 module _ (a b : Automaton) (charts : Charts a b) (c : Choices) where
   -- starts: a state beyond the rule's is none of its starts

@@ -28,7 +28,7 @@ everywhere s t small below passes q =
     (cases_lt q 32)
 
 -- the members of a shifted set
-pub shifted : (s from i : ℕ) → bit (s / 2 ^ from) i ≡ bit s (from + i)
+shifted : (s from i : ℕ) → bit (s / 2 ^ from) i ≡ bit s (from + i)
 shifted s from i = ap (λ x. eqb (x % 2) 1) (shr-shr s from i)
 
 pub none_false : (q : ℕ) → bit 0 q ≡ false

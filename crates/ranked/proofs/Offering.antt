@@ -2,7 +2,6 @@
 use Rattle.std.proofs.Common.{◌≡◌, ℕ, zero, suc, ◌+◌, ◌-◌, ◌*◌, ◌/◌, ◌%◌, ◌^◌, ◌<◌, ◌≤◌, Bool, true, ◌&&◌, eqb, leb, get_or, Option, Some, None, refl, sym, ap, ◌∙◌, subst, ⊎_elim, arith}
 use Rattle.std.proofs.Math.Pow.{pow_mono}
 use Rattle.std.proofs.lemmas.Bool.{and_from, and_parts, cases_lt, le-leb, leb-true}
-use Rattle.std.proofs.lemmas.Bool.Decides.{nat_tests}
 use Rattle.chart.specs.Automata.{Automaton}
 use Rattle.chart.specs.Kinds.{bit}
 use Rattle.rank.specs.Containment.{Charts}
@@ -13,26 +12,13 @@ use Rattle.rank.specs.Ranked.{is_number}
 use Rattle.rank.specs.Rules.{has_even, may_have}
 use Rattle.rank.proofs.Fields.{field_at, field_beyond, fields_like, fields_own, fields_small, fields_zeros, no_bits}
 use Rattle.rank.proofs.Laws.{marked_even, may_have_none, rank_most}
-use Rattle.rank.proofs.Numbers.{Fits, flag_small, node_fits, numbers_correspond, rank_read}
+use Rattle.rank.proofs.Numbers.{Fits, even_held, flag_small, held_read, node_fits, numbers_correspond, odd_even, rank_read}
 use Rattle.rank.proofs.Tests.{Valid, number_holds}
 use Rattle.ranked.specs.declared.choices.Choices.{Choices}
 use Rattle.ranked.specs.Choices.{chosen, owed, rest, upper}
-use Rattle.ranked.specs.Digits.{digit, made}
+use Rattle.ranked.specs.Digits.{digit, drawn}
 use Rattle.ranked.specs.Offers.{Offers}
-use Rattle.ranked.proofs.Numerals.{made_at, made_from, made_small}
-
--- an odd digit is an even rank
-odd_even : (r : Option ℕ) → eqb (held r % 2) 1 ≡ has_even r
-odd_even None = refl
-odd_even (Some r) = grind (arith, nat_tests)
-
-pub even_held : (d : ℕ) → eqb (d % 2) 1 ≡ has_even (rank_held d)
-even_held zero = refl
-even_held (suc r) = odd_even (Some r)
-
-held_read : (d : ℕ) → held (rank_held d) ≡ d
-held_read zero = refl
-held_read (suc d) = refl
+use Rattle.ranked.proofs.Numerals.{drawn_at, drawn_from, drawn_small}
 
 -- x has parts that pass
 pub record Passes (b : Automaton) (rank : ℕ → Option ℕ → Bool) (owes : ℕ → Bool) (turn : Bool) (duty : ℕ → Bool) (x : Node) : Type 0 where
@@ -81,17 +67,17 @@ module _ (a b : Automaton) (charts : Charts a b) (rank : ℕ → Option ℕ → 
     digit_out : (q : ℕ) → b.states ≤ q → digit ranks q ≡ 0
     digit_out q h = field_beyond 4 ranks_of b.states q fits.ranks h
 
-    offered : (q : ℕ) → q < 6 → (r : Option ℕ) → held r < 16 → may_have b q r ≡ true → rank q r ≡ true → bit (get_or c.held q 0) (held r) ≡ true
+    offered : (q : ℕ) → q < 6 → (r : Option ℕ) → held r < 16 → may_have b q r ≡ true → rank q r ≡ true → bit (get_or c.digits q 0) (held r) ≡ true
     offered q low r small may passes =
         o.ranks q (held r) low small ∙ ap (λ t. may_have b q t && rank q t) (rank_read r) ∙ and_from (may_have b q r) (rank q r) may passes
 
-    digits_made : made c.held 6 ranks ≡ true
-    digits_made =
-        made_from c.held 6 ranks ranks_small
+    digits_drawn : drawn c.digits 6 ranks ≡ true
+    digits_drawn =
+        drawn_from c.digits 6 ranks ranks_small
         (λ q low. ⊎_elim
-        (λ (h : q < b.states). subst (λ d. bit (get_or c.held q 0) d ≡ true) (sym (digit_in q h))
+        (λ (h : q < b.states). subst (λ d. bit (get_or c.digits q 0) d ≡ true) (sym (digit_in q h))
         (offered q low (x.rank q) (fits.ranks q h) (v.ranks q h) (p.ranks q h)))
-        (λ (h : b.states ≤ q). subst (λ d. bit (get_or c.held q 0) d ≡ true) (sym (digit_out q h))
+        (λ (h : b.states ≤ q). subst (λ d. bit (get_or c.digits q 0) d ≡ true) (sym (digit_out q h))
         (offered q low None (omega arith) (may_have_none b q) (no_rank q h)))
         (cases_lt q b.states))
 
@@ -127,7 +113,7 @@ module _ (a b : Automaton) (charts : Charts a b) (rank : ℕ → Option ℕ → 
     passes_number w e =
         let top : w / 4096 ≡ ranks = omega (arith, fits.duty, set_small, flag_small x.turn) in
         let low : w % 4096 ≡ x.duty + (set * 64 + flag x.turn * 32) = omega (arith, fits.duty, set_small, flag_small x.turn) in
-        and_from (made c.held 6 (w / 4096)) (rest c (w / 4096) (w % 4096)) (subst (λ f. made c.held 6 f ≡ true) (sym top) digits_made)
+        and_from (drawn c.digits 6 (w / 4096)) (rest c (w / 4096) (w % 4096)) (subst (λ f. drawn c.digits 6 f ≡ true) (sym top) digits_drawn)
         (subst (λ f. rest c f (w % 4096) ≡ true) (sym top) (passes_rest (w % 4096) low))
 
   pub passes_chosen : (w : ℕ) → is_number a b w ≡ true → Passes b rank owes turn duty (parts w) → chosen c w ≡ true
@@ -144,12 +130,12 @@ module _ (a b : Automaton) (charts : Charts a b) (rank : ℕ → Option ℕ → 
     abbrev d : ℕ
     d = r - upper c f
 
-    chosen_made : made c.held 6 f ≡ true
-    chosen_made = (and_parts (made c.held 6 f) (rest c f r) e).0
+    chosen_drawn : drawn c.digits 6 f ≡ true
+    chosen_drawn = (and_parts (drawn c.digits 6 f) (rest c f r) e).0
 
     chosen_rest : (upper c f ≤ r) × (bit c.duty d ≡ true)
     chosen_rest =
-        let p = and_parts (leb (upper c f) r) (bit c.duty d) (and_parts (made c.held 6 f) (rest c f r) e).1 in
+        let p = and_parts (leb (upper c f) r) (bit c.duty d) (and_parts (drawn c.digits 6 f) (rest c f r) e).1 in
         (leb-true (upper c f) r p.0, p.1)
 
     state : duty d ≡ true
@@ -165,7 +151,7 @@ module _ (a b : Automaton) (charts : Charts a b) (rank : ℕ → Option ℕ → 
     y = record { duty = d; rank = rank_of; owed = owed_of; turn = c.turn }
 
     f_small : f < 2 ^ 24
-    f_small = made_small c.held 6 f chosen_made
+    f_small = drawn_small c.digits 6 f chosen_drawn
 
     digit_fits : (q : ℕ) → digit f q < 16
     digit_fits q = omega arith
@@ -173,7 +159,7 @@ module _ (a b : Automaton) (charts : Charts a b) (rank : ℕ → Option ℕ → 
     digit_offered : (q : ℕ) → q < 6 → (may_have b q (rank_of q) ≡ true) × (rank q (rank_of q) ≡ true)
     digit_offered q low =
         and_parts (may_have b q (rank_of q)) (rank q (rank_of q))
-        (sym (o.ranks q (digit f q) low (digit_fits q)) ∙ made_at c.held 6 f chosen_made q low)
+        (sym (o.ranks q (digit f q) low (digit_fits q)) ∙ drawn_at c.digits 6 f chosen_drawn q low)
 
     none_only : (q k : ℕ) → b.states ≤ q → rank q (rank_held k) ≡ true → k ≡ 0
     none_only q zero h passes = refl

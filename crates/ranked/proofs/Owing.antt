@@ -1,7 +1,7 @@
 -- The owed set as bits, and what follows from it.
-use Rattle.std.proofs.Common.{◌≡◌, ℕ, suc, ◌+◌, ◌<◌, ◌≤◌, ◌⊎◌, Bool, true, false, not, ◌&&◌, ◌||◌, eqb, ltb, Option, Some, None, refl, sym, ap, ◌∙◌, subst, ⊎_elim, arith}
+use Rattle.std.proofs.Common.{◌≡◌, ℕ, suc, ◌+◌, ◌<◌, Bool, true, false, not, ◌&&◌, ◌||◌, eqb, Option, Some, None, refl, sym, ap, ◌∙◌, ⊎_elim, arith}
 use Rattle.std.proofs.Math.Bool.{or_comm}
-use Rattle.std.proofs.lemmas.Bool.{and_from, and_parts, both_ways, cases_eq, cases_lt, eq-eqb, eqb-true, false≢true, lt-ltb, ne_eqb}
+use Rattle.std.proofs.lemmas.Bool.{and_from, and_parts, both_ways, cases_eq, eq-eqb, eqb-true, false≢true, ne_eqb}
 use lib.Bits.{bit_or}
 use Rattle.chart.specs.Automata.{Automaton}
 use Rattle.chart.specs.Kinds.{bit}
@@ -16,8 +16,6 @@ use Rattle.rank.proofs.Implied.{alike}
 use Rattle.rank.proofs.Laws.{empty_from, empty_none, follows_from, follows_some}
 use Rattle.rank.proofs.Numbers.{numbers_correspond}
 use Rattle.ranked.specs.declared.nodes.Parts.{Parts}
-use Rattle.ranked.specs.Digits.{digit}
-use Rattle.ranked.specs.Following.{LowestBelow}
 use Rattle.ranked.specs.Reads.{Reads}
 use Rattle.ranked.proofs.Members.{member_below, none_false, some_member}
 use Rattle.ranked.proofs.Upto.{bit_six}
@@ -87,32 +85,3 @@ pub followers_without : (f : ℕ → Bool) (p s q : ℕ) → bit s q ≡ any_bel
 followers_without f p s q before none =
     let next : any_below (suc p) f ≡ any_below (p + 1) f = ap (λ n. any_below n f) (let e : suc p ≡ p + 1 = omega arith in e) in
     before ∙ (ap (λ t. t || any_below p f) (sym none) ∙ next)
-
--- one more state that has a rank and steps to q, or one that does not
-module _ (n : ℕ) (b : Automaton) (ranks l q least : ℕ) (low : LowestBelow n b ranks l q least) where
-  pub lowest_with : (r : ℕ) → b.step n l q ≡ true → 0 < r → r ≤ digit ranks n → (0 < least → r ≤ least)
-      → ((r ≡ digit ranks n) ⊎ ((0 < least) × (r ≡ least))) → LowestBelow (n + 1) b ranks l q r
-  lowest_with r step some below before one =
-      record {
-        below =
-            λ p h ranked s. ⊎_elim
-            (λ (less : p < n). let k = low.below p less ranked s in (some, omega (arith, k.1, before k.0)))
-            (λ (last : n ≤ p). let e : n ≡ p = omega arith in (some, subst (λ x. r ≤ digit ranks x) e below))
-            (cases_lt p n);
-        there =
-            λ h. ⊎_elim (λ e. (n, omega arith, sym e, step))
-            (λ (more, e). let t = low.there more in (t.0, omega (arith, t.1), t.2 ∙ sym e, t.3)) one;
-      }
-
-  pub lowest_without : (ltb 0 (digit ranks n) && b.step n l q) ≡ false → LowestBelow (n + 1) b ranks l q least
-  lowest_without out =
-      record {
-        below =
-            λ p h ranked s. ⊎_elim (λ (less : p < n). low.below p less ranked s)
-            (λ (last : n ≤ p). let e : p ≡ n = omega arith in
-            absurd (both_ways (ltb 0 (digit ranks n) && b.step n l q) out
-            (and_from (ltb 0 (digit ranks n)) (b.step n l q) (lt-ltb 0 (digit ranks n) (subst (λ x. 0 < digit ranks x) e ranked))
-            (subst (λ x. b.step x l q ≡ true) e s))))
-            (cases_lt p n);
-        there = λ h. let t = low.there h in (t.0, omega (arith, t.1), t.2, t.3);
-      }

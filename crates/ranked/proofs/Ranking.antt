@@ -1,47 +1,35 @@
 -- Which digits the choices let each state have: at a start, at any node, and after a step.
-use Rattle.std.proofs.Common.{◌≡◌, ℕ, zero, suc, ◌%◌, ◌<◌, ◌≤◌, Bool, true, false, not, ◌&&◌, ◌||◌, eqb, leb, Option, Some, None, is_some, refl, sym, ap, ◌∙◌, subst, arith}
-use Rattle.std.proofs.lemmas.Bool.{and_from, and_left, and_parts, and_right, eq-eqb, eqb-true, false_from_ne_true, le-leb, le-ltb, leb-true, lt-ltb, ne_eqb}
-use Rattle.std.proofs.lemmas.Bool.Decides.{nat_tests}
+use Rattle.std.proofs.Common.{◌≡◌, ℕ, zero, suc, ◌+◌, ◌%◌, ◌<◌, ◌≤◌, ◌⊎◌, Bool, true, false, not, ◌&&◌, ◌||◌, eqb, leb, ltb, Option, Some, None, is_some, refl, sym, ap, ◌∙◌, subst, ⊎_elim, arith}
+use Rattle.std.proofs.lemmas.Bool.{and_from, and_left, and_parts, and_right, both_ways, cases_lt, eq-eqb, eqb-true, false_from_ne_true, le-leb, le-ltb, leb-true, lt-ltb}
 use lib.Bits.{bit_or}
+use lib.Dec.{eqb-suc-zero, leb-suc-suc}
 use Rattle.chart.specs.Automata.{Automaton}
 use Rattle.chart.specs.Kinds.{bit}
 use Rattle.chart.proofs.Bits.{bit_of_or}
-use Rattle.numbers.specs.Below.{all_below}
 use Rattle.rank.specs.Layout.{rank_held}
-use Rattle.rank.specs.Rules.{at_most, follows, is_even, is_first_rank, is_next_rank, may_have, top_rank}
+use Rattle.rank.specs.Rules.{is_even, is_first_rank, is_next_rank, may_have, top_rank}
 use Rattle.rank.proofs.Implied.{alike, implied, implied_from}
-use Rattle.rank.proofs.Laws.{follows_from, follows_some, marked_even, may_have_from, next_none, next_ranked, next_some, some_value, top_even}
+use Rattle.rank.proofs.Numbers.{even_held}
+use Rattle.rank.proofs.Laws.{follows_from, follows_some, marked_even, may_have_from, next_follows, next_none, next_ranked, next_some, some_value, top_even}
 use Rattle.ranked.specs.Digits.{digit}
-use Rattle.ranked.specs.Tests.{is_within}
-use Rattle.ranked.specs.Following.{Lowest, is_upto}
-use Rattle.ranked.proofs.Offering.{even_held}
+use Rattle.ranked.specs.Offered.{is_within}
+use Rattle.ranked.specs.Following.{Lowest, LowestBelow, is_upto}
 use Rattle.ranked.proofs.Upto.{bit_zero}
 
 and_true : (t : Bool) → (t && true) ≡ t
 and_true true = refl
 and_true false = refl
 
-suc_zero : (r : ℕ) → eqb (suc r) 0 ≡ false
-suc_zero r = ne_eqb (suc r) 0 (λ e. omega arith)
-
 zero_only : (r : ℕ) → suc r < 16 → bit 1 (suc r) ≡ false
-zero_only r h = bit_zero (suc r) h ∙ suc_zero r
-
-leb_suc : (m n : ℕ) → leb (suc m) (suc n) ≡ leb m n
-leb_suc m n = grind (arith, nat_tests)
+zero_only r h = bit_zero (suc r) h ∙ eqb-suc-zero r
 
 some_same : {r s : ℕ} → ◌≡◌ {A = Option ℕ} (Some r) (Some s) → r ≡ s
 some_same e = cc
 
--- a state that has a rank after a step follows one that had
-pub next_follows : (b : Automaton) (rank : ℕ → Option ℕ) (l q r : ℕ) → is_next_rank b rank l q (Some r) ≡ true → follows b (λ p. is_some (rank p)) l q ≡ true
-next_follows b rank l q r e =
-    (and_parts (follows b (λ p. is_some (rank p)) l q) (all_below b.states (λ p. not (b.step p l q) || at_most r (rank p))) e).0
-
 module _ (b : Automaton) (q : ℕ) where
   -- at a start of the rule the greatest rank, and none elsewhere
   pub first_of_start : (k : ℕ) → k ≡ suc (top_rank b) → b.start q ≡ true → (d : ℕ) → eqb k d ≡ (may_have b q (rank_held d) && is_first_rank b q (rank_held d))
-  first_of_start k e s zero = rw (e, s) (suc_zero (top_rank b))
+  first_of_start k e s zero = rw (e, s) (eqb-suc-zero (top_rank b))
   first_of_start k e s (suc r) =
       alike (eqb k (suc r)) (may_have b q (Some r) && is_first_rank b q (Some r))
       (λ t. let is : r ≡ top_rank b = let u = eqb-true k (suc r) t in omega arith in
@@ -63,7 +51,7 @@ module _ (b : Automaton) (q : ℕ) where
   upto_may : (r : ℕ) → is_upto (suc (top_rank b)) (b.mark q) (suc r) ≡ may_have b q (Some r)
   upto_may r =
       ap (λ t. t && (leb (suc r) (suc (top_rank b)) && (not (b.mark q) || eqb (suc r % 2) 1))) (le-leb 1 (suc r) (omega arith))
-      ∙ (ap (λ t. t && (not (b.mark q) || eqb (suc r % 2) 1)) (leb_suc r (top_rank b))
+      ∙ (ap (λ t. t && (not (b.mark q) || eqb (suc r % 2) 1)) (leb-suc-suc r (top_rank b))
       ∙ ap (λ t. leb r (top_rank b) && (not (b.mark q) || t)) (even_held (suc r)))
 
   pub node_of_state : q < b.states → (k : ℕ) → k ≡ suc (top_rank b) → (s : ℕ) → ((d : ℕ) → d < 16 → bit s d ≡ is_upto k (b.mark q) d)
@@ -118,7 +106,7 @@ module _ (b : Automaton) (few : b.states ≤ 6) (ranks l q least : ℕ) (rank : 
 
   next_suc : (m r : ℕ) → least ≡ m → is_upto m (b.mark q) (suc r) ≡ (may_have b q (Some r) && is_next_rank b rank l q (Some r))
   next_suc zero r e =
-      suc_zero r
+      eqb-suc-zero r
       ∙ sym (false_from_ne_true (may_have b q (Some r) && is_next_rank b rank l q (Some r))
       (λ t. let p = and_parts (may_have b q (Some r)) (is_next_rank b rank l q (Some r)) t in
       let f = follows_some b (λ p. is_some (rank p)) l q (next_follows b rank l q r p.1) in
@@ -142,3 +130,32 @@ module _ (b : Automaton) (few : b.states ≤ 6) (ranks l q least : ℕ) (rank : 
   pub next_of : (d : ℕ) → is_upto least (b.mark q) d ≡ (may_have b q (rank_held d) && is_next_rank b rank l q (rank_held d))
   next_of zero = next_zero least refl
   next_of (suc r) = next_suc least r refl
+
+-- one more state that has a rank and steps to q, or one that does not
+module _ (n : ℕ) (b : Automaton) (ranks l q least : ℕ) (low : LowestBelow n b ranks l q least) where
+  pub lowest_with : (r : ℕ) → b.step n l q ≡ true → 0 < r → r ≤ digit ranks n → (0 < least → r ≤ least)
+      → ((r ≡ digit ranks n) ⊎ ((0 < least) × (r ≡ least))) → LowestBelow (n + 1) b ranks l q r
+  lowest_with r step some below before one =
+      record {
+        below =
+            λ p h ranked s. ⊎_elim
+            (λ (less : p < n). let k = low.below p less ranked s in (some, omega (arith, k.1, before k.0)))
+            (λ (last : n ≤ p). let e : n ≡ p = omega arith in (some, subst (λ x. r ≤ digit ranks x) e below))
+            (cases_lt p n);
+        there =
+            λ h. ⊎_elim (λ e. (n, omega arith, sym e, step))
+            (λ (more, e). let t = low.there more in (t.0, omega (arith, t.1), t.2 ∙ sym e, t.3)) one;
+      }
+
+  pub lowest_without : (ltb 0 (digit ranks n) && b.step n l q) ≡ false → LowestBelow (n + 1) b ranks l q least
+  lowest_without out =
+      record {
+        below =
+            λ p h ranked s. ⊎_elim (λ (less : p < n). low.below p less ranked s)
+            (λ (last : n ≤ p). let e : p ≡ n = omega arith in
+            absurd (both_ways (ltb 0 (digit ranks n) && b.step n l q) out
+            (and_from (ltb 0 (digit ranks n)) (b.step n l q) (lt-ltb 0 (digit ranks n) (subst (λ x. 0 < digit ranks x) e ranked))
+            (subst (λ x. b.step x l q ≡ true) e s))))
+            (cases_lt p n);
+        there = λ h. let t = low.there h in (t.0, omega (arith, t.1), t.2, t.3);
+      }

@@ -25,7 +25,7 @@ module _ (c : Choices) (f : ℕ) where
       let p = and_parts (leb (upper c f) r) (bit c.duty (r - upper c f)) e in
       omega (arith, leb-true (upper c f) r p.0, member_below c.duty 32 (r - upper c f) duty p.1, upper_small)
 
-  pub rest_from : (q : ℕ) → bit c.duty q ≡ true → rest c f (upper c f + q) ≡ true
+  rest_from : (q : ℕ) → bit c.duty q ≡ true → rest c f (upper c f + q) ≡ true
   rest_from q b =
       let same : upper c f + q - upper c f ≡ q = omega arith in
       and_from (leb (upper c f) (upper c f + q)) (bit c.duty (upper c f + q - upper c f)) (le-leb (upper c f) (upper c f + q) (omega arith))

@@ -3,7 +3,7 @@ use Rattle.std.specs.Prelude.{ℕ, ◌+◌, ◌-◌, ◌*◌, ◌/◌, ◌%◌, 
 use Rattle.chart.specs.Kinds.{bit}
 use Rattle.rank.specs.Layout.{fields, flag}
 use Rattle.ranked.specs.declared.choices.Choices.{Choices}
-use Rattle.ranked.specs.Digits.{digit, made}
+use Rattle.ranked.specs.Digits.{digit, drawn}
 
 module _ (c : Choices) where
   -- the owed set: an odd digit is an even rank
@@ -19,4 +19,4 @@ module _ (c : Choices) where
   rest ranks r = nat_le (upper ranks) r && bit c.duty (r - upper ranks)
 
   abbrev pub chosen : ℕ → Bool
-  chosen v = made c.held 6 (v / 2 ^ 12) && rest (v / 2 ^ 12) (v % 2 ^ 12)
+  chosen v = drawn c.digits 6 (v / 2 ^ 12) && rest (v / 2 ^ 12) (v % 2 ^ 12)

@@ -9,5 +9,5 @@ abbrev pub digit : ℕ → ℕ → ℕ
 digit ranks q = bits ranks (4 * q) 4
 
 -- those of the first k states are in the sets, and all other bits are 0
-abbrev pub made : List ℕ → ℕ → ℕ → Bool
-made sets k ranks = nat_lt ranks (2 ^ (4 * k)) && all_below k (λ q. bit (slice_index sets q) (digit ranks q))
+abbrev pub drawn : List ℕ → ℕ → ℕ → Bool
+drawn sets k ranks = nat_lt ranks (2 ^ (4 * k)) && all_below k (λ q. bit (slice_index sets q) (digit ranks q))

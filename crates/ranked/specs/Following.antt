@@ -11,7 +11,7 @@ pub record LowestBelow (n : ℕ) (b : Automaton) (ranks l q least : ℕ) : Type 
 abbrev pub Lowest : Automaton → ℕ → ℕ → ℕ → ℕ → Type 0
 Lowest = LowestBelow 6
 
--- d is one of the digits 1 to most, and an odd one if only these may be; or it is 0, if most is
+-- d is one of the digits from 1 to most, and odd if `odd` is asked; where most is 0, d is 0
 abbrev pub is_upto : ℕ → Bool → ℕ → Bool
 is_upto zero odd d = d == 0
 is_upto (suc most) odd d = nat_le 1 d && (nat_le d (suc most) && (not odd || d % 2 == 1))

@@ -8,4 +8,4 @@ pub mod Following
 pub mod Maps
 pub mod Bounds
 pub mod Refused
-pub mod Tests
+pub mod Offered

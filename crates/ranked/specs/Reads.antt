@@ -10,5 +10,5 @@ pub record Reads (v : ℕ) (p : Parts) : Type 0 where
   pub turn : p.turn ≡ (parts v).turn
   pub owed : (q : ℕ) → q < 6 → bit p.owed q ≡ (parts v).owed q
   pub rank : (q : ℕ) → rank_held (digit p.ranks q) ≡ (parts v).rank q
-  pub small_duty : p.duty < 32
+  -- no state beyond the sixth is read
   pub small_owed : p.owed < 2 ^ 6

@@ -1,11 +1,12 @@
 // The least of the numbers that are told by a choice for each of their parts. It is found part by part, whatever the
 // number of choices.
-use crate::sets::{contains, least_member, members};
+use crate::digits::{digit, flag_at, joined};
+use crate::sets::{contains, least_member};
 
 #[derive(Clone, Copy)]
 pub(crate) struct Choices {
-    // of each state of the rule the set of what its four bits may hold: its rank and one more, or 0
-    pub(crate) held: [u16; 6],
+    // for each state of the rule the set of the digits that it may have: its rank and one more, or 0 for none
+    pub(crate) digits: [u16; 6],
     // the states of the rule that are owed if their rank is even
     pub(crate) owing: u32,
     pub(crate) turn: bool,
@@ -17,16 +18,17 @@ impl Choices {
     ghost use Rattle.std.specs.Prelude.{◌≡◌, ℕ, suc, ◌*◌, ◌%◌, ◌^◌, ◌<◌, ◌&&◌, slice_index};
     ghost use Rattle.chart.specs.Kinds.{bit};
     ghost use Rattle.graph.specs.Least.{Least};
-    ghost use Rattle.ranked.specs.Digits.{digit, made};
+    ghost use Rattle.ranked.specs.Digits.{digit, drawn};
     ghost use Rattle.ranked.specs.Choices.{owed, upper, rest, chosen};
 
-    // Of the ranks of the states below q, `best` goes with the digit of state q of `from` if that digit is in its set.
+    // `best`, the least ranks of the states below q that are not below those of `from`, if the digit of state q of `from` is in
+    // its set; else none.
     fn least_below(self, q: u8, from: u64, best: Option<u64>) -> Option<u64>
         requires state { q < 6 }
-        requires best { Least (made self.held q) (from % 2 ^ (4 * q)) best }
-        ensures { Least (λ x. bit (slice_index self.held q) (digit from q) && made self.held q x) (from % 2 ^ (4 * q)) result }
+        requires best { Least (drawn self.digits q) (from % 2 ^ (4 * q)) best }
+        ensures { Least (λ x. bit (slice_index self.digits q) (digit from q) && drawn self.digits q x) (from % 2 ^ (4 * q)) result }
     {
-        if contains(self.held[q as usize] as u32, digit(from, q)) {
+        if contains(self.digits[q as usize] as u32, digit(from, q)) {
             best
         } else {
             None
@@ -37,11 +39,11 @@ impl Choices {
     // states below q that are not below those of `from`, and that there are.
     fn raise(self, q: u8, from: u64, best: Option<u64>, low: Option<u64>) -> Option<u64>
         requires state { q < 6 }
-        requires best { Least (made self.held q) (from % 2 ^ (4 * q)) best }
-        requires low { Least (made self.held q) 0 low }
-        ensures { Least (made self.held (suc q)) (from % 2 ^ (4 * suc q)) result }
+        requires best { Least (drawn self.digits q) (from % 2 ^ (4 * q)) best }
+        requires low { Least (drawn self.digits q) 0 low }
+        ensures { Least (drawn self.digits (suc q)) (from % 2 ^ (4 * suc q)) result }
     {
-        let set = self.held[q as usize] as u32;
+        let set = self.digits[q as usize] as u32;
         let digit = digit(from, q);
         if let Some(rest) = self.least_below(q, from, best) {
             return Some(joined(digit, q, rest));
@@ -53,7 +55,7 @@ impl Choices {
 
     // The least ranks that are not below `from`.
     fn least_ranks(self, from: u64) -> Option<u64>
-        ensures { Least (made self.held 6) from result }
+        ensures { Least (drawn self.digits 6) from result }
     {
         if from >= 1 << 24 {
             return None;
@@ -69,13 +71,13 @@ impl Choices {
 
     // May the states have these ranks?
     fn admits(self, ranks: u64) -> bool
-        ensures { result ≡ made self.held 6 ranks }
+        ensures { result ≡ drawn self.digits 6 ranks }
     {
         if ranks >= 1 << 24 {
             return false;
         }
         for q in 0..6u8 {
-            if !contains(self.held[q as usize] as u32, digit(ranks, q)) {
+            if !contains(self.digits[q as usize] as u32, digit(ranks, q)) {
                 return false;
             }
         }
@@ -112,9 +114,9 @@ impl Choices {
         Some(upper + duty)
     }
 
-    // The same, if the states may have the ranks.
+    // The least of what may stand below the ranks that is not below `from`, if the states may have these ranks.
     fn least_here(self, ranks: u64, from: u64) -> Option<u64>
-        ensures { Least (λ x. made self.held 6 ranks && rest self ranks x) from result }
+        ensures { Least (λ x. drawn self.digits 6 ranks && rest self ranks x) from result }
     {
         if self.admits(ranks) {
             self.least_rest(ranks, from)
@@ -123,7 +125,7 @@ impl Choices {
         }
     }
 
-    // Is v one of them?
+    // Is v one of the numbers?
     pub(crate) fn has(self, v: u64) -> bool
         ensures { result ≡ chosen self v }
     {
@@ -136,7 +138,7 @@ impl Choices {
         }
     }
 
-    // The least that is not below `from`.
+    // The least of the numbers that is not below `from`.
     pub(crate) fn least(self, from: u64) -> Option<u64>
         ensures { Least (chosen self) from result }
     {
@@ -148,33 +150,4 @@ impl Choices {
         let rest = self.least_rest(next, 0)?;
         Some(next * 4096 + rest)
     }
-}
-
-ghost use Rattle.std.specs.Prelude.{◌≡◌, ◌+◌, ◌*◌, ◌^◌, ◌<◌, ◌≤◌};
-ghost use Rattle.rank.specs.Layout.{flag};
-ghost use Rattle.ranked.specs.Digits.{digit};
-
-// Bit q, if it is set.
-fn flag_at(set: bool, q: u8) -> u64
-    requires { q < 6 }
-    ensures value { result ≡ flag set * 2 ^ q }
-    ensures small { result ≤ 32 }
-{
-    if set { 1 << q } else { 0 }
-}
-
-// What four bits of the ranks hold.
-pub(crate) fn digit(ranks: u64, q: u8) -> u64
-    requires { q < 6 }
-    ensures { result ≡ digit ranks q }
-{
-    (ranks >> (4 * q)) % 16
-}
-
-// The ranks of q states, and a digit above them.
-fn joined(digit: u64, q: u8, ranks: u64) -> u64
-    requires { (q < 6) × (digit < 16) × (ranks < 2 ^ (4 * q)) }
-    ensures { result ≡ digit * 2 ^ (4 * q) + ranks }
-{
-    (digit << (4 * q)) + ranks
 }

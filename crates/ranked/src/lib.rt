@@ -2,6 +2,7 @@
 #![tactic(auto)]
 
 mod choices;
+mod digits;
 mod making;
 mod maps;
 mod nodes;

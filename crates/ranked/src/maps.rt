@@ -5,7 +5,7 @@ use crate::snapshots::Snapshot;
 use graph::Map;
 use lasso::Word;
 
-#[derive(Clone, Copy)]
+#[derive(Drop)]
 pub struct RankedMap {
     pub(crate) duty: Snapshot,
     pub(crate) rule: Snapshot,

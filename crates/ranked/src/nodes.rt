@@ -1,4 +1,5 @@
 // The parts of a node, read from its number.
+ghost use Rattle.std.specs.Prelude.{◌<◌};
 
 #[derive(Clone, Copy)]
 pub(crate) struct Parts {
@@ -7,8 +8,9 @@ pub(crate) struct Parts {
     pub(crate) turn: bool,
     // the set of the owed states
     pub(crate) owed: u32,
-    // four bits for each state of the rule: its rank and one more, or 0
+    // a digit for each state of the rule: its rank and one more, or 0 for none
     pub(crate) ranks: u64,
+    ghost small: { duty < 32 },
 }
 
 impl Parts {

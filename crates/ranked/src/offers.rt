@@ -1,5 +1,6 @@
 // The choices for the parts of starts, of a node itself, and of its successors.
-use crate::choices::{Choices, digit};
+use crate::choices::Choices;
+use crate::digits::digit;
 use crate::maps::RankedMap;
 use crate::nodes::Parts;
 use crate::sets::contains;
@@ -14,9 +15,9 @@ impl RankedMap {
     ghost use Rattle.ranked.specs.Following.{Lowest};
     ghost use Rattle.ranked.specs.Maps.{duty_of, rule_of};
     ghost use Rattle.ranked.specs.Reads.{Reads};
-    ghost use Rattle.ranked.specs.Tests.{is_within, StartsOffered, NodeOffered, NextOffered};
+    ghost use Rattle.ranked.specs.Offered.{is_within, StartsOffered, NodeOffered, NextOffered};
 
-    // What the bits of state q may hold at a start: the greatest rank where it is a start, else none.
+    // The digits that state q may have at a start of the graph: that of the greatest rank where q is a start, else that of none.
     fn first_digits(&self, q: u8) -> u16
         ensures { (d : ℕ) → d < 16 → bit result d ≡ (may_have (rule_of self.now) q (rank_held d) && is_first_rank (rule_of self.now) q (rank_held d)) }
     {
@@ -27,7 +28,7 @@ impl RankedMap {
         }
     }
 
-    // What they may hold at any node.
+    // The digits that state q may have at any node.
     fn node_digits(&self, q: u8) -> u16
         ensures { (d : ℕ) → d < 16 → bit result d ≡ (may_have (rule_of self.now) q (rank_held d) && is_within (rule_of self.now) q (rank_held d)) }
     {
@@ -64,7 +65,7 @@ impl RankedMap {
         least
     }
 
-    // What they may hold after a step.
+    // The digits that state q may have after a step by the letter.
     fn next_digits(&self, node: Parts, letter: u8, q: u8) -> u16
         requires letter { letter < self.now.rule.letters }
         ensures { (v : ℕ) → Reads v node → is_number (duty_of self.now) (rule_of self.now) v ≡ true → (d : ℕ) → d < 16 → bit result d ≡ (may_have (rule_of self.now) q (rank_held d) && is_next_rank (rule_of self.now) (parts v).rank letter q (rank_held d)) }
@@ -95,6 +96,7 @@ impl RankedMap {
         ensures { (v : ℕ) → Reads v node → is_number (duty_of self.now) (rule_of self.now) v ≡ true → (q : ℕ) → q < (rule_of self.now).states → bit result q ≡ (is_empty (rule_of self.now) (parts v).owed || follows (rule_of self.now) (parts v).owed letter q) }
     {
         if node.owed == 0 {
+            // all states of the largest rule
             63
         } else {
             self.followers(node.owed, letter)
@@ -117,7 +119,7 @@ impl RankedMap {
         ensures { StartsOffered (duty_of self.now) (rule_of self.now) result }
     {
         Choices {
-            held: each_state(|q| self.first_digits(q)),
+            digits: each_state(|q| self.first_digits(q)),
             owing: 0,
             turn: false,
             duty: self.duty.starts,
@@ -129,10 +131,10 @@ impl RankedMap {
         ensures { (v : ℕ) → Reads v node → NodeOffered (rule_of self.now) (parts v) result }
     {
         Choices {
-            held: each_state(|q| self.node_digits(q)),
+            digits: each_state(|q| self.node_digits(q)),
             owing: node.owed,
             turn: node.turn,
-            duty: 1 << (node.duty % 32),
+            duty: 1 << node.duty,
         }
     }
 
@@ -142,10 +144,10 @@ impl RankedMap {
         ensures { (v : ℕ) → Reads v node → is_number (duty_of self.now) (rule_of self.now) v ≡ true → NextOffered (duty_of self.now) (rule_of self.now) (parts v) letter result }
     {
         Choices {
-            held: each_state(|q| self.next_digits(node, letter, q)),
+            digits: each_state(|q| self.next_digits(node, letter, q)),
             owing: self.owing(node, letter),
             turn: self.next_turn(node),
-            duty: self.duty.steps(node.duty % 32, letter),
+            duty: self.duty.steps(node.duty, letter),
         }
     }
 }
@@ -175,17 +177,18 @@ fn digits_upto(most: u8, odd: bool) -> u16
         return 1;
     }
     let all = ((1u32 << (most + 1)) - 2) as u16;
+    // the odd digits are the bits at odd places
     if odd { all & 0xaaaa } else { all }
 }
 
-// What each state of the rule may hold.
+// The digits that each state of the rule may have.
 fn each_state<F: Fn(u8) -> u16>(digits: F) -> [u16; 6]
     requires { F.IsAlwaysCallable digits }
     ensures { (q : ℕ) → q < 6 → F.post digits q (slice_index result q) }
 {
-    let mut held = [0u16; 6];
-    for (q, held) in held.iter_mut().enumerate() {
-        *held = digits(q as u8);
+    let mut sets = [0u16; 6];
+    for (q, set) in sets.iter_mut().enumerate() {
+        *set = digits(q as u8);
     }
-    held
+    sets
 }

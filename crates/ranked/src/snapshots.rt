@@ -7,14 +7,14 @@ ghost use Rattle.ranked.specs.Snapshots.{by_rows};
 use crate::sets::members;
 use chart::Chart;
 
-#[derive(Clone, Copy)]
+#[derive(Drop)]
 pub(crate) struct Snapshot {
     pub(crate) states: u8,
     pub(crate) letters: u8,
     // sets of states
     pub(crate) starts: u32,
     pub(crate) marks: u32,
-    // for each state and letter the set of the states that it steps to; no chart has more than 32 states or 16 letters
+    // row p * 16 + i is the set of the states that state p steps to by letter i; no chart has more than 32 states or 16 letters
     rows: [u32; 512],
     ghost limits: { Limits (by_rows states letters starts marks rows) },
 }

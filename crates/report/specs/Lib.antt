@@ -2,4 +2,4 @@ pub mod Readings
 pub mod Sheets
 pub mod Shown
 pub mod Listed
-pub mod Ruled
+pub mod Decided

@@ -1,4 +1,4 @@
--- The bytes that are printed: a line of names, and a line or two of values.
+-- The bytes of a refusal: a line of names, and a line of values.
 use Rattle.std.specs.Prelude.{ℕ, List, [], ◌∷◌, ◌++◌, codes, decimal}
 use Rattle.fault.specs.Refusals.{bench_refusal}
 use Rattle.report.specs.declared.refusals.Refusal.{Refusal}

@@ -13,7 +13,8 @@ use Rattle.search.specs.Surveys.{Allowed, Collected, Surveyed, Told}
 use Rattle.search.specs.Tables.{node_at}
 use Rattle.search.specs.declared.records.Record.{Record}
 use Rattle.search.specs.declared.surveys.Findings.{Findings}
-use Rattle.verdict.specs.Verdicts.{Decides, Forbidden, IsVerdict, kind_of, verdict_of}
+use Rattle.verdict.specs.Telling.{kind_of, verdict_of}
+use Rattle.verdict.specs.Verdicts.{Decides, Forbidden, IsVerdict}
 use Rattle.verdict.specs.declared.verdicts.Kind.{Kind}
 use Rattle.verdict.specs.declared.verdicts.Kind.TheVariants.{Keep, Break}
 use Rattle.verdict.specs.declared.verdicts.Verdict.{Verdict}
@@ -54,6 +55,10 @@ keeps_exactly : (a b : Automaton) (k : Kind) → IsVerdict a b k → (k ≡ Keep
 keeps_exactly a b Break f = (λ e. absurd (cc), λ all. absurd (not_included a b (forbidden_differs a b f) all))
 keeps_exactly a b Keep all = (λ e. all, λ x. refl)
 
+broken : (a b : Automaton) (k : Kind) → IsVerdict a b k → k ≡ Break → Forbidden a b
+broken a b Break f e = f
+broken a b Keep all e = absurd (cc)
+
 -- a search of the ranked graph of two charts that mean the same
 module _ (a b a' b' : Automaton) (same_duty : a' ≡ a) (same_rule : b' ≡ b) (g : Graph) (same : g ≡ ranked_graph a' b') where
   moved : (P : Graph → Type 0) → P g → P (ranked_graph a b)
@@ -73,7 +78,7 @@ module _ (a b a' b' : Automaton) (same_duty : a' ≡ a) (same_rule : b' ≡ b) (
         table = table;
         count = count;
         fits = omega (arith, s.collected.fits);
-        told = told;
         breaks = breaks_exactly a b (kind_of found.witness) told;
         keeps = keeps_exactly a b (kind_of found.witness) told;
+        word = broken a b (kind_of found.witness) told;
       })

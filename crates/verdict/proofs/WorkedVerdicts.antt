@@ -14,14 +14,14 @@ use Rattle.rank.specs.Examples.{entry_at, graph_of, means}
 use Rattle.rank.specs.Examples as ranked
 use Rattle.rank.specs.Ranked.{ranked_graph}
 use Rattle.rank.proofs.WorkedExamples as graphs
-use Rattle.verdict.specs.Examples.{Example, examples, ExamplesHold, Holds, verdict}
+use Rattle.verdict.specs.Examples.{Example, examples, ExamplesHold, Holds, example}
 use Rattle.verdict.specs.Verdicts.{IsVerdict}
 use Rattle.verdict.specs.declared.verdicts.Kind.TheVariants.{Keep, Break}
 use Rattle.verdict.proofs.Telling.{cycle_forbidden}
 
 -- the verdict that a graph tells
 abbrev tells : ranked.Example → Example
-tells e = verdict e.duty e.rule (cond e.cycle Break Keep) (length e.entries)
+tells e = example e.duty e.rule (cond e.cycle Break Keep) (length e.entries)
 
 abbrev is_small : ranked.Example → Bool
 is_small e = leb (length e.entries) 65536

@@ -15,18 +15,18 @@ pub record Example : Type 0 where
   pub kind : Kind
   pub nodes : ℕ
 
-abbrev pub verdict : TableChart → TableChart → Kind → ℕ → Example
-verdict duty rule kind nodes = record { duty = duty; rule = rule; kind = kind; nodes = nodes }
+abbrev pub example : TableChart → TableChart → Kind → ℕ → Example
+example duty rule kind nodes = record { duty = duty; rule = rule; kind = kind; nodes = nodes }
 
 abbrev pub examples : List Example
 examples =
-    verdict marked_loop unmarked_loop Break 6
-    ∷ verdict marked_loop marked_loop Keep 3
-    ∷ verdict unmarked_loop unmarked_loop Keep 4
-    ∷ verdict marked_loop (still 1) Break 3
-    ∷ verdict marked_loop no_start Break 2
-    ∷ verdict (still 1) unmarked_loop Keep 1
-    ∷ verdict no_start unmarked_loop Keep 0
+    example marked_loop unmarked_loop Break 6
+    ∷ example marked_loop marked_loop Keep 3
+    ∷ example unmarked_loop unmarked_loop Keep 4
+    ∷ example marked_loop (still 1) Break 3
+    ∷ example marked_loop no_start Break 2
+    ∷ example (still 1) unmarked_loop Keep 1
+    ∷ example no_start unmarked_loop Keep 0
     ∷ []
 
 pub record Holds (e : Example) : Type 0 where

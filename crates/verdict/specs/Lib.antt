@@ -1,3 +1,4 @@
-pub mod Examples
 pub mod Verdicts
+pub mod Telling
+pub mod Examples
 pub mod Shown

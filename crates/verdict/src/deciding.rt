@@ -1,7 +1,8 @@
 // The verdict on a duty and a rule, by a search of their ranked graph.
 ghost use Rattle.std.specs.Prelude.{◌≡◌, length, MatchResult};
 ghost use Rattle.search.specs.Surveys.{Allowed};
-ghost use Rattle.verdict.specs.Verdicts.{Decides, DecideRefused, RoomRefused, verdict_of};
+ghost use Rattle.verdict.specs.Telling.{RoomRefused, verdict_of};
+ghost use Rattle.verdict.specs.Verdicts.{Decides, DecideRefused};
 
 use crate::verdicts::{Kind, Verdict};
 use chart::Chart;

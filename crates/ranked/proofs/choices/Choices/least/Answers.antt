@@ -2,16 +2,16 @@ use Rattle.std.proofs.Common.{◌/◌, subst, sym, arith}
 use Rattle.std.proofs.lemmas.Bool.{and_parts}
 use Rattle.graph.specs.Least.{Least}
 use Rattle.ranked.specs.Choices.{chosen, rest}
-use Rattle.ranked.specs.Digits.{made}
+use Rattle.ranked.specs.Digits.{drawn}
 use Rattle.ranked.proofs.Choosing.{chosen_empty, chosen_here, chosen_next, chosen_none}
-use Rattle.ranked.proofs.Numerals.{made_small}
+use Rattle.ranked.proofs.Numerals.{drawn_small}
 use Rattle.ranked.proofs.Uppers.{rest_small}
 use Rattle.ranked.proofs.choices.Choices.least.Goals as goal
 
 pub overflow_add-result : goal.overflow_add-result
 overflow_add-result c =
     let here = c.in-Some.ensures in
-    let p = and_parts (made c.args.self.held 6 (c.args.from / 4096)) (rest c.args.self (c.args.from / 4096) c.in-Some.rest) here.1 in
+    let p = and_parts (drawn c.args.self.digits 6 (c.args.from / 4096)) (rest c.args.self (c.args.from / 4096) c.in-Some.rest) here.1 in
     omega (arith, rest_small c.args.self (c.args.from / 4096) (omega arith) c.in-Some.rest p.1)
 
 pub returns-in-Some : goal.returns-in-Some
@@ -31,7 +31,7 @@ pub overflow_add-result-2 : goal.overflow_add-result-2
 overflow_add-result-2 c =
     let next = c.in_ok-next.ensures in
     let rest = c.in_ok-rest.ensures in
-    omega (arith, made_small c.args.self.held 6 c.in_ok-next.next next.1, rest_small c.args.self c.in_ok-next.next (omega arith) c.in_ok-rest.rest rest.1)
+    omega (arith, drawn_small c.args.self.digits 6 c.in_ok-next.next next.1, rest_small c.args.self c.in_ok-next.next (omega arith) c.in_ok-rest.rest rest.1)
 
 pub returns : goal.returns
 returns c =

@@ -3,7 +3,7 @@ use Rattle.std.proofs.lemmas.Bool.{and_parts}
 use Rattle.ranked.specs.Digits.{digit}
 use Rattle.ranked.specs.Following.{LowestBelow}
 use Rattle.ranked.specs.Maps.{rule_of}
-use Rattle.ranked.proofs.Owing.{lowest_with, lowest_without}
+use Rattle.ranked.proofs.Ranking.{lowest_with, lowest_without}
 use Rattle.ranked.proofs.maps.RankedMap.lowest.Goals as goal
 use Rattle.ranked.proofs.maps.RankedMap.lowest.Goals.{then-leads, else-leads}
 

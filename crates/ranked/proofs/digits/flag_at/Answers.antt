@@ -1,7 +1,7 @@
 use Rattle.std.proofs.Common.{◌≤◌, arith}
 use Rattle.std.proofs.Math.Pow.{pow_mono}
 use Rattle.std.proofs.lemmas.Nat.{one_shl}
-use Rattle.ranked.proofs.choices.flag_at.Goals as goal
+use Rattle.ranked.proofs.digits.flag_at.Goals as goal
 
 pub returns-then-set-clause-small : goal.returns-then-set-clause-small
 returns-then-set-clause-small c =

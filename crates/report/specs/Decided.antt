@@ -1,36 +1,37 @@
--- What a report on two texts says, and its bytes.
-use Rattle.std.specs.Prelude.{◌≡◌, ℕ, ◌<◌, ◌≤◌, List, Ok, Err, Result, MatchResult}
+-- What the report on two texts says, and its bytes.
+use Rattle.std.specs.Prelude.{◌≡◌, ℕ, ◌≤◌, List, Ok, Err, Result, MatchResult}
 use Rattle.chart.specs.Automata.{Automaton}
 use Rattle.fault.specs.declared.BenchFault.{BenchFault}
 use Rattle.fault.specs.declared.BenchFault.TheVariants as bench
 use Rattle.fault.specs.declared.SearchFault.TheVariants.{Table, Full}
 use Rattle.graph.specs.Walks.{More}
 use Rattle.rank.specs.Ranked.{ranked_graph}
+use Rattle.ranked.specs.Refused.{MapRefused}
 use Rattle.report.specs.Readings.{ReadsBoth, FirstRefused}
 use Rattle.report.specs.Shown.{refusal_text}
 use Rattle.report.specs.declared.refusals.Refusal.{Refusal}
-use Rattle.report.specs.declared.rulings.Report.{Report}
+use Rattle.report.specs.declared.deciding.Report.{Report}
 use Rattle.verdict.specs.Shown.{verdict_text}
 use Rattle.verdict.specs.Verdicts.{Decides}
 use Rattle.verdict.specs.declared.verdicts.Verdict.{Verdict}
 
 -- the verdict on the charts that the files tell, in a room of 512 nodes
-pub record Rules (duty rule : List ℕ) (v : Verdict) : Type 0 where
+pub record DecidesBoth (duty rule : List ℕ) (v : Verdict) : Type 0 where
   pub a : Automaton
   pub b : Automaton
   pub reads : ReadsBoth duty rule a b
   pub decides : Decides a b 512 512 v
 
 -- The charts differ in letters, or the rule has more than 6 states, or more than 512 nodes of their ranked graph can be reached.
-abbrev pub RulingRefused : Automaton → Automaton → BenchFault → Type 0
-RulingRefused a b (bench.Chart e) = ⊥
-RulingRefused a b bench.Letters = a.letters ≡ b.letters → ⊥
-RulingRefused a b bench.States = (a.letters ≡ b.letters) × (6 < b.states)
-RulingRefused a b (bench.Search Table) = ⊥
-RulingRefused a b (bench.Search Full) = (a.letters ≡ b.letters) × (b.states ≤ 6) × More (ranked_graph a b) 512
+abbrev pub BothRefused : Automaton → Automaton → BenchFault → Type 0
+BothRefused a b (bench.Chart e) = ⊥
+BothRefused a b bench.Letters = MapRefused a b bench.Letters
+BothRefused a b bench.States = MapRefused a b bench.States
+BothRefused a b (bench.Search Table) = ⊥
+BothRefused a b (bench.Search Full) = (a.letters ≡ b.letters) × (b.states ≤ 6) × More (ranked_graph a b) 512
 
 abbrev pub Reports : List ℕ → List ℕ → Report → Type 0
-Reports duty rule r = MatchResult r.0 (Rules duty rule) (FirstRefused duty rule RulingRefused)
+Reports duty rule r = MatchResult r.0 (DecidesBoth duty rule) (FirstRefused duty rule BothRefused)
 
 abbrev pub result_text : Result Verdict Refusal → List ℕ
 result_text (Ok v) = verdict_text v

@@ -1,7 +1,7 @@
 // The verdict on two chart texts.
 ghost use Rattle.std.specs.Prelude.{Some, MatchResult};
 ghost use Rattle.report.specs.Readings.{FirstRefused};
-ghost use Rattle.report.specs.Ruled.{Rules, RulingRefused, Reports, report_text};
+ghost use Rattle.report.specs.Decided.{BothRefused, DecidesBoth, Reports, report_text};
 
 use crate::refusals::{Refusal, Side};
 use crate::sheets::Sheet;
@@ -27,8 +27,8 @@ impl fmt::Display for Report {
 // The most nodes that the program searches.
 pub const ROOM: usize = 512;
 
-fn rule_on(duty: &[u8], rule: &[u8]) -> Result<Verdict, Refusal>
-    ensures { MatchResult result (Rules duty.now rule.now) (FirstRefused duty.now rule.now RulingRefused) }
+fn decide_both(duty: &[u8], rule: &[u8]) -> Result<Verdict, Refusal>
+    ensures { MatchResult result (DecidesBoth duty.now rule.now) (FirstRefused duty.now rule.now BothRefused) }
 {
     let duty = Side::Duty.read(duty)?;
     let rule = Side::Rule.read(rule)?;
@@ -43,5 +43,5 @@ fn rule_on(duty: &[u8], rule: &[u8]) -> Result<Verdict, Refusal>
 pub fn decide_texts(duty: &[u8], rule: &[u8]) -> Report
     ensures { Reports duty.now rule.now result }
 {
-    Report(rule_on(duty, rule))
+    Report(decide_both(duty, rule))
 }
