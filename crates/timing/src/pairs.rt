@@ -41,14 +41,6 @@ fn search_once(
     Ok((found.map_err(|_| anyhow!("the search is refused"))?, spent))
 }
 
-// The number of edges that leave the nodes, and the microseconds that it took to ask for each.
-fn walk(rt: &HostRuntime, map: &RankedMap, nodes: &[Record]) -> anyhow::Result<(u64, u128)> {
-    let begun = Instant::now(rt)?;
-    let edges = count_edges(map, nodes);
-    let spent = begun.elapsed(rt)?.as_micros();
-    Ok((edges, spent))
-}
-
 // The same for the median of five searches, if the first takes less than a tenth of a second.
 fn search(
     rt: &HostRuntime,
@@ -66,6 +58,14 @@ fn search(
     Ok((found, times[2]))
 }
 
+// The number of edges that leave the nodes, and the microseconds that it took to ask for each.
+fn walk(rt: &HostRuntime, map: &RankedMap, nodes: &[Record]) -> anyhow::Result<(u64, u128)> {
+    let begun = Instant::now(rt)?;
+    let edges = count_edges(map, nodes);
+    let spent = begun.elapsed(rt)?.as_micros();
+    Ok((edges, spent))
+}
+
 // A pair's line. The search has a table of 65,536 records.
 fn time(rt: &HostRuntime, pair: &Pair) -> anyhow::Result<()> {
     let (map, making) = make(rt, pair)?;
@@ -80,7 +80,7 @@ fn time(rt: &HostRuntime, pair: &Pair) -> anyhow::Result<()> {
     Ok(())
 }
 
-pub fn figures(rt: &HostRuntime) -> anyhow::Result<()> {
+pub(crate) fn figures(rt: &HostRuntime) -> anyhow::Result<()> {
     println!(rt; "graph nodes edges marked-cycle map-us search-us walk-us")?;
     for pair in &PAIRS {
         time(rt, pair)?;

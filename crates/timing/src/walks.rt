@@ -17,7 +17,7 @@ fn count_successors<M: Map>(map: &M, node: u64, letter: u8) -> u64 {
 }
 
 // The number of edges that leave the nodes of the records.
-pub fn count_edges<M: Map>(map: &M, nodes: &[Record]) -> u64 {
+pub(crate) fn count_edges<M: Map>(map: &M, nodes: &[Record]) -> u64 {
     let mut edges = 0u64;
     for record in nodes {
         for letter in 0..map.letters(NO_WORD) {
