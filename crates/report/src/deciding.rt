@@ -4,8 +4,6 @@ ghost use Rattle.report.specs.Readings.{FirstRefused};
 ghost use Rattle.report.specs.Decided.{BothRefused, DecidesBoth, Reports, report_text};
 
 use crate::refusals::{Refusal, Side};
-use crate::sheets::Sheet;
-use fault::BenchFault;
 use std::fmt;
 use verdict::{Record, Verdict, decide};
 

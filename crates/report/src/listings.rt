@@ -5,7 +5,6 @@ ghost use Rattle.report.specs.Listed.{Summarizes, ListsBoth, ListsTexts, empty_t
 ghost use Rattle.report.specs.Readings.{FirstRefused};
 
 use crate::refusals::{Refusal, Side};
-use crate::sheets::Sheet;
 use chart::Chart;
 use member::{Record, empty};
 use std::fmt;
