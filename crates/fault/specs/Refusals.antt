@@ -43,4 +43,10 @@ abbrev pub bench_refusal : BenchFault → Refusal
 bench_refusal (bench.Chart e) = refusal e
 bench_refusal bench.Letters = record { number = 5; place = 0 }
 bench_refusal bench.States = record { number = 6; place = 0 }
+bench_refusal bench.Room = record { number = 7; place = 0 }
+bench_refusal bench.Shape = record { number = 9; place = 0 }
+bench_refusal bench.Occupied = record { number = 10; place = 0 }
+bench_refusal bench.Vacant = record { number = 11; place = 0 }
+bench_refusal bench.Unpassed = record { number = 12; place = 0 }
 bench_refusal (bench.Search e) = survey_refusal e
+bench_refusal (bench.Broken e) = record { number = 14; place = e.place }

@@ -7,6 +7,8 @@ ghost use Rattle.fault.specs.declared.ChartFault.TheVariants.{Text};
 ghost use Rattle.fault.specs.declared.MemberFault.TheVariants.{Word, Search};
 ghost use Rattle.fault.specs.declared.BenchFault.TheVariants as bench;
 
+use rules::Breach;
+
 // A fault of any layer, as its reader sees it.
 pub trait Fault {
     // its number, and the line or place that it tells
@@ -188,8 +190,20 @@ pub enum BenchFault {
     Letters,
     // the rule has more than 6 states
     States,
-    // the search of their ranked graph is; by `Table` also where the work table does not have exactly the room's records
+    // the room is not from 1 to 65,536, or a lent table does not have exactly the records that the room asks for
+    Room,
+    // the slip put has more records than the table, or its loop place does not go with its kind and its records
+    Shape,
+    // there is a slip already
+    Occupied,
+    // there is no slip
+    Vacant,
+    // the slip is not passed
+    Unpassed,
+    // the search of their ranked graph is
     Search(SearchFault),
+    // the slip breaks a rule
+    Broken(Breach),
 }
 
 impl From<ChartFault> for BenchFault {
@@ -216,15 +230,22 @@ impl Fault for BenchFault {
             BenchFault::Chart(e) => e.number(),
             BenchFault::Letters => 5,
             BenchFault::States => 6,
+            BenchFault::Room => 7,
+            BenchFault::Shape => 9,
+            BenchFault::Occupied => 10,
+            BenchFault::Vacant => 11,
+            BenchFault::Unpassed => 12,
             BenchFault::Search(e) => e.number(),
+            BenchFault::Broken(_) => 14,
         }
     }
 
     fn place(&self) -> usize {
         match *self {
             BenchFault::Chart(e) => e.place(),
-            BenchFault::Letters | BenchFault::States => 0,
             BenchFault::Search(e) => e.place(),
+            BenchFault::Broken(e) => e.place,
+            _ => 0,
         }
     }
 }

@@ -2,7 +2,7 @@
 use Rattle.std.specs.Prelude.{◌≡◌, ◌<◌, ◌≤◌}
 use Rattle.chart.specs.Automata.{Automaton}
 use Rattle.fault.specs.declared.BenchFault.{BenchFault}
-use Rattle.fault.specs.declared.BenchFault.TheVariants.{Chart, Letters, States, Search}
+use Rattle.fault.specs.declared.BenchFault.TheVariants.{Letters, States}
 use Rattle.ranked.specs.Maps.{duty_of, rule_of}
 use Rattle.ranked.specs.declared.maps.RankedMap.{RankedMap}
 
@@ -14,7 +14,6 @@ pub record Made (a b : Automaton) (m : RankedMap) : Type 0 where
   pub rule : rule_of m ≡ b
 
 abbrev pub MapRefused : Automaton → Automaton → BenchFault → Type 0
-MapRefused a b (Chart e) = ⊥
 MapRefused a b Letters = a.letters ≡ b.letters → ⊥
 MapRefused a b States = (a.letters ≡ b.letters) × (6 < b.states)
-MapRefused a b (Search e) = ⊥
+MapRefused a b _ = ⊥

@@ -26,9 +26,7 @@ FileRefused text Limits = ⊥
 -- a fault of a chart's file
 abbrev pub OfFile : List ℕ → BenchFault → Type 0
 OfFile text (bench.Chart e) = FileRefused text e
-OfFile text bench.Letters = ⊥
-OfFile text bench.States = ⊥
-OfFile text (bench.Search e) = ⊥
+OfFile text _ = ⊥
 
 -- both files are read
 pub record ReadsBoth (duty rule : List ℕ) (a b : Automaton) : Type 0 where

@@ -1,0 +1,4 @@
+pub mod Shapes
+pub mod Certificates
+pub mod Rules
+pub mod Showing
