@@ -1,1 +1,283 @@
 // Which rule a slip breaks first.
+ghost use Rattle.std.specs.Prelude.{◌≡◌, ℕ, ◌<◌, ◌≤◌, true, length, Decides, MatchOption};
+ghost use Rattle.graph.specs.Least.{Least};
+ghost use Rattle.lasso.specs.Positions.{after};
+ghost use Rattle.rules.specs.Numbered.{keep_number, break_number};
+ghost use Rattle.search.specs.Tables.{node_at};
+ghost use Rattle.slip.specs.Asked.{graph_of, among, Within, Held, limit, MeetsKeep, MeetsBreak, Lowest, LowestAt};
+ghost use Rattle.slip.specs.Certificates.{content};
+ghost use Rattle.slip.specs.Rules.{Meets, FirstBreach};
+
+use crate::slips::Slip;
+use graph::Map;
+use lasso::{Lasso, Word};
+use rules::{Breach, BreakRule, KeepRule, Kind, Rule};
+use search::Record;
+
+// Is a measure below the limit, if there is one?
+fn is_within(measure: u32, limit: Option<u64>) -> bool
+    ensures { Decides result (Within limit measure) }
+{
+    match limit {
+        Some(limit) => u64::from(measure) < limit,
+        None => true,
+    }
+}
+
+// Which nodes are asked for: the starts, or those that edges with a letter lead to from a node.
+#[derive(Clone, Copy)]
+pub(crate) enum Nodes {
+    Starts,
+    Successors(u64, u8),
+}
+
+// A slip, and the graph that it is inspected over: a map, and the word that each question to it is handed.
+#[derive_where(Clone, Copy)]
+pub(crate) struct Inspection<'a, M> {
+    map: &'a M,
+    word: Word<'a>,
+    slip: Slip<'a>,
+}
+
+impl<'a, M: Map> Inspection<'a, M> {
+    // The least of these nodes that is not below `from`.
+    fn least(&self, nodes: Nodes, from: u64) -> Option<u64>
+        ensures { Least (among (graph_of M.Map.graph self.now) nodes) from result }
+    {
+        match nodes {
+            Nodes::Starts => self.map.least_start(self.word, from),
+            Nodes::Successors(node, letter) => self.map.least_next(self.word, node, letter, from),
+        }
+    }
+
+    // Does an edge with this letter lead from one node to the other?
+    fn is_edge(&self, node: u64, letter: u8, next: u64) -> bool
+        ensures { Decides result ((graph_of M.Map.graph self.now).edge node letter next ≡ true) }
+    {
+        self.map.least_next(self.word, node, letter, next) == Some(next)
+    }
+
+    // Has a record this node, with a measure below the limit, if there is one? A slip has no index of its nodes: this goes
+    // through the records, and is the only function that does so to find a node.
+    fn is_held(&self, node: u64, limit: Option<u64>) -> bool
+        ensures { Decides result (Held self.now.slip.records.now limit node) }
+    {
+        self.slip.records.iter().any(|record| record.node == node
+            && is_within(record.measure, limit))
+    }
+
+    // Is each of these nodes held, with a measure below the limit, if there is one?
+    fn are_held(&self, nodes: Nodes, limit: Option<u64>) -> bool
+        ensures { Decides result ((v : ℕ) → among (graph_of M.Map.graph self.now) nodes v ≡ true → Held self.now.slip.records.now limit v) }
+    {
+        let mut from = 0;
+        while let Some(node) = self.least(nodes, from) {
+            if !self.is_held(node, limit) {
+                return false;
+            }
+            let Some(after) = node.checked_add(1) else {
+                return true;
+            };
+            from = after;
+        }
+        true
+    }
+
+    // What the measures behind a record's edges are below.
+    fn limit(&self, record: Record) -> u64
+        ensures { result ≡ limit ((graph_of M.Map.graph self.now).marked record.node) record.measure }
+    {
+        let measure = u64::from(record.measure);
+        if self.map.is_marked(self.word, record.node) {
+            measure
+        } else {
+            measure + 1
+        }
+    }
+
+    // Is each node held to which an edge leads from a node, by any letter?
+    fn are_successors_held(&self, node: u64, limit: Option<u64>) -> bool
+        ensures { Decides result ((l : ℕ) → l < (graph_of M.Map.graph self.now).letters → (v : ℕ) → (graph_of M.Map.graph self.now).edge node l v ≡ true → Held self.now.slip.records.now limit v) }
+    {
+        for letter in 0..self.map.letters(self.word) {
+            if !self.are_held(Nodes::Successors(node, letter), limit) {
+                return false;
+            }
+        }
+        true
+    }
+
+    // Has a record of a keep slip a node, and letter 0?
+    fn meets_keep_node(&self, place: usize) -> bool
+        requires { place < length self.now.slip.records.now }
+        ensures { Decides result (MeetsKeep M.Map.graph self.now place KeepRule.Node) }
+    {
+        let record = self.slip.records[place];
+        self.map.is_node(self.word, record.node) && record.letter == 0
+    }
+
+    // Does each successor of a record's node have a record, with a measure that falls where it should?
+    fn meets_keep_next(&self, place: usize) -> bool
+        requires { place < length self.now.slip.records.now }
+        ensures { Decides result (MeetsKeep M.Map.graph self.now place KeepRule.Next) }
+    {
+        let record = self.slip.records[place];
+        self.are_successors_held(record.node, Some(self.limit(record)))
+    }
+
+    // The first rule that a record of a keep slip breaks.
+    fn keep_breach(&self, place: usize) -> Option<KeepRule>
+        requires { place < length self.now.slip.records.now }
+        ensures { Lowest keep_number (MeetsKeep M.Map.graph self.now place) result }
+    {
+        if !self.meets_keep_node(place) {
+            Some(KeepRule::Node)
+        } else if !self.meets_keep_next(place) {
+            Some(KeepRule::Next)
+        } else {
+            None
+        }
+    }
+
+    // The rule that the records of a keep slip break together.
+    fn keep_end_breach(&self) -> Option<KeepRule>
+        ensures { Lowest keep_number (MeetsKeep M.Map.graph self.now (length self.now.slip.records.now)) result }
+    {
+        if self.are_held(Nodes::Starts, None) {
+            None
+        } else {
+            Some(KeepRule::Starts)
+        }
+    }
+
+    // Has a record of a break slip a node, a letter of the graph, and measure 0?
+    fn meets_break_node(&self, place: usize) -> bool
+        requires { place < length self.now.slip.records.now }
+        ensures { Decides result (MeetsBreak M.Map.graph self.now place BreakRule.Node) }
+    {
+        let record = self.slip.records[place];
+        self.map.is_node(self.word, record.node)
+            && record.letter < self.map.letters(self.word)
+            && record.measure == 0
+    }
+
+    // Has the record a start, if it is the first?
+    fn meets_break_start(&self, place: usize) -> bool
+        requires { place < length self.now.slip.records.now }
+        ensures { Decides result (MeetsBreak M.Map.graph self.now place BreakRule.Start) }
+    {
+        place > 0 || self.map.is_start(self.word, self.slip.records[place].node)
+    }
+
+    // The place after a place, in the lasso that the records of a break slip are.
+    fn after(&self, place: usize) -> usize
+        requires { self.now.slip.stem < length self.now.slip.records.now }
+        ensures is { result ≡ after (length self.now.slip.records.now) self.now.slip.stem place }
+        ensures below { result < length self.now.slip.records.now }
+    {
+        let lasso = Lasso {
+            elements: self.slip.records,
+            stem: self.slip.stem,
+        };
+        lasso.after(place).unwrap()
+    }
+
+    // Does an edge lead from a record's node to that of the record that follows?
+    fn meets_break_next(&self, place: usize) -> bool
+        requires { (place < length self.now.slip.records.now) × (self.now.slip.stem < length self.now.slip.records.now) }
+        ensures { Decides result (MeetsBreak M.Map.graph self.now place BreakRule.Next) }
+    {
+        let record = self.slip.records[place];
+        let next = self.slip.records[self.after(place)];
+        self.is_edge(record.node, record.letter, next.node)
+    }
+
+    // The first rule that a record of a break slip breaks.
+    fn break_breach(&self, place: usize) -> Option<BreakRule>
+        requires { (place < length self.now.slip.records.now) × (self.now.slip.stem < length self.now.slip.records.now) }
+        ensures { Lowest break_number (MeetsBreak M.Map.graph self.now place) result }
+    {
+        if !self.meets_break_node(place) {
+            Some(BreakRule::Node)
+        } else if !self.meets_break_start(place) {
+            Some(BreakRule::Start)
+        } else if !self.meets_break_next(place) {
+            Some(BreakRule::Next)
+        } else {
+            None
+        }
+    }
+
+    // Has one of these records a marked node?
+    fn has_mark(&self, records: &[Record]) -> bool
+        ensures { Decides result ((k : ℕ) × (k < length records.now) × ((graph_of M.Map.graph self.now).marked (node_at records.now k) ≡ true)) }
+    {
+        records
+            .iter()
+            .any(|record| self.map.is_marked(self.word, record.node))
+    }
+
+    // Has a record a marked node, at this place or behind it?
+    fn has_mark_from(&self, place: usize) -> bool
+        requires { place ≤ length self.now.slip.records.now }
+        ensures { Decides result ((k : ℕ) × (place ≤ k) × (k < length self.now.slip.records.now) × ((graph_of M.Map.graph self.now).marked (node_at self.now.slip.records.now k) ≡ true)) }
+    {
+        self.has_mark(&self.slip.records[place..])
+    }
+
+    // The rule that the records of a break slip break together.
+    fn break_end_breach(&self) -> Option<BreakRule>
+        requires { self.now.slip.stem < length self.now.slip.records.now }
+        ensures { Lowest break_number (MeetsBreak M.Map.graph self.now (length self.now.slip.records.now)) result }
+    {
+        if self.has_mark_from(self.slip.stem) {
+            None
+        } else {
+            Some(BreakRule::Mark)
+        }
+    }
+
+    // The first rule that a record breaks.
+    fn record_breach(&self, place: usize) -> Option<Rule>
+        requires { place < length self.now.slip.records.now }
+        ensures { LowestAt (graph_of M.Map.graph self.now) (content self.now.slip) place result }
+    {
+        match self.slip.kind {
+            Kind::Keep => self.keep_breach(place).map(Rule::Keep),
+            Kind::Break => self.break_breach(place).map(Rule::Break),
+        }
+    }
+
+    // The first rule that the records break together.
+    fn end_breach(&self) -> Option<Rule>
+        ensures { LowestAt (graph_of M.Map.graph self.now) (content self.now.slip) (length self.now.slip.records.now) result }
+    {
+        match self.slip.kind {
+            Kind::Keep => self.keep_end_breach().map(Rule::Keep),
+            Kind::Break => self.break_end_breach().map(Rule::Break),
+        }
+    }
+}
+
+impl<'a> Slip<'a> {
+    // The first rule that it breaks: the lowest place first, and there the lowest rule.
+    pub fn first_breach<M: Map>(&self, map: &M, word: Word<'_>) -> Option<Breach>
+        ensures { MatchOption result (Meets (M.Map.graph map.now word.entry.elements.now word.entry.stem) (content self.now)) (FirstBreach (M.Map.graph map.now word.entry.elements.now word.entry.stem) (content self.now)) }
+    {
+        let inspection = Inspection {
+            map,
+            word,
+            slip: *self,
+        };
+        for place in 0..self.records.len() {
+            if let Some(rule) = inspection.record_breach(place) {
+                return Some(Breach { rule, place });
+            }
+        }
+        let rule = inspection.end_breach()?;
+        Some(Breach {
+            rule,
+            place: self.records.len(),
+        })
+    }
+}

@@ -8,9 +8,9 @@ use search::Record;
 // Records, and the place from which they repeat for ever, which is 0 where they show keep.
 #[derive(Clone, Copy)]
 pub struct Slip<'a> {
-    kind: Kind,
-    stem: usize,
-    records: &'a [Record],
+    pub(crate) kind: Kind,
+    pub(crate) stem: usize,
+    pub(crate) records: &'a [Record],
     ghost placed: { stem < stems kind (length records.now) },
     ghost few: { length records.now ≤ 131072 },
 }

@@ -1,0 +1,3 @@
+pub mod Handing
+pub mod Standing
+pub mod Lasting

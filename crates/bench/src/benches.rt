@@ -1,0 +1,83 @@
+// The bench itself, and how it is made.
+ghost use Rattle.std.specs.Prelude.{◌≡◌, ◌*◌, ◌<◌, ◌≤◌};
+ghost use Rattle.search.specs.Surveys.{Allowed};
+ghost use Rattle.bench.specs.States.{count_of, stem_of, stems_of};
+
+use crate::states::State;
+use chart::{Chart, Fitted};
+use fault::BenchFault;
+use ranked::RankedMap;
+use search::Record;
+
+// A duty, a rule, a room for so many nodes of their ranked graph, and what is known of the slip, whose records stand in a table
+// that the caller lends to each call.
+#[derive(Drop)]
+pub struct Bench<D, R> {
+    pub(crate) duty: Fitted<D>,
+    pub(crate) rule: Fitted<R>,
+    pub(crate) room: usize,
+    pub(crate) state: State,
+    ghost same_letters: { duty.size.letters ≡ rule.size.letters },
+    ghost few_states: { rule.size.states ≤ 6 },
+    ghost allowed: { Allowed room },
+    // the slip fits into the table, and its loop place goes with its kind
+    ghost within: { count_of state ≤ 2 * room },
+    ghost placed: { stem_of state < stems_of state },
+}
+
+impl<D: Chart + Drop, R: Chart + Drop> Bench<D, R> {
+    ghost use Rattle.std.specs.Prelude.{List, IfOk, MatchResult};
+    ghost use Rattle.bench.specs.Calls.{Sized};
+    ghost use Rattle.bench.specs.Histories.{LedTo};
+    ghost use Rattle.bench.specs.Making.{NewBench, NewRefused};
+
+    fn set_up(duty: D, rule: R, room: usize) -> Result<Bench<D, R>, BenchFault>
+        ensures { MatchResult result (NewBench D.Chart.meaning R.Chart.meaning duty rule room) (NewRefused (D.Chart.meaning duty) (R.Chart.meaning rule) room) }
+    {
+        let duty = Fitted::new(duty);
+        let rule = Fitted::new(rule);
+        if duty.letters() != rule.letters() {
+            return Err(BenchFault::Letters);
+        }
+        if rule.states() > 6 {
+            return Err(BenchFault::States);
+        }
+        if room == 0 || room > 65_536 {
+            return Err(BenchFault::Room);
+        }
+        Ok(Bench {
+            duty,
+            rule,
+            room,
+            state: State::Empty,
+        })
+    }
+
+    // An empty bench. Refused by 5 where the charts differ in letters, then by 6 where the rule has more than 6 states, then by 7
+    // where the room is not from 1 to 65,536.
+    pub fn new(duty: D, rule: R, room: usize) -> Result<Bench<D, R>, BenchFault>
+        ensures answer { MatchResult result (NewBench D.Chart.meaning R.Chart.meaning duty rule room) (NewRefused (D.Chart.meaning duty) (R.Chart.meaning rule) room) }
+        ensures law { IfOk result (λ s. (table : List Record) → Sized room table → LedTo D.Chart.meaning R.Chart.meaning (D.Chart.meaning duty) (R.Chart.meaning rule) room s table) }
+    {
+        Bench::set_up(duty, rule, room)
+    }
+}
+
+impl<D: Chart, R: Chart> Bench<D, R> {
+    ghost use Rattle.ranked.specs.Refused.{Made};
+    ghost use Rattle.bench.specs.Benches.{duty_on, rule_on};
+
+    // The ranked graph of the two charts, which are asked anew.
+    pub(crate) fn map(&self) -> RankedMap
+        ensures { Made (duty_on D.Chart.meaning self.now) (rule_on R.Chart.meaning self.now) result }
+    {
+        RankedMap::new(&self.duty, &self.rule).unwrap()
+    }
+
+    // Whether it has a slip, and which.
+    pub fn state(&self) -> State
+        ensures { result ≡ self.now.state }
+    {
+        self.state
+    }
+}

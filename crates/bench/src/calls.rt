@@ -1,0 +1,120 @@
+// The calls that need no search: put, inspect, release and clear.
+ghost use Rattle.std.specs.Prelude.{◌≡◌, ◌≤◌, ℕ, List, length, MatchResult};
+ghost use Rattle.bench.specs.Slips.{Fits};
+ghost use Rattle.bench.specs.declared.states.State.TheVariants as states;
+ghost use Rattle.chart.specs.Automata.{Automaton};
+ghost use Rattle.fault.specs.declared.BenchFault.TheVariants as faults;
+
+use crate::benches::Bench;
+use crate::states::{Form, State};
+use chart::Chart;
+use fault::BenchFault;
+use rules::Kind;
+use search::Record;
+
+// Refused by 9 where the slip has more records than a slip table for the room, or its loop place does not go with its kind.
+fn check_fit(room: usize, kind: Kind, stem: usize, records: &[Record]) -> Result<(), BenchFault>
+    requires { room ≤ 65536 }
+    ensures { MatchResult result (λ _. Fits room (record { kind = kind; stem = stem; records = records.now })) (λ e. (e ≡ faults.Shape) × (Fits room (record { kind = kind; stem = stem; records = records.now }) → ⊥)) }
+{
+    let stems = match kind {
+        Kind::Keep => 1,
+        Kind::Break => records.len(),
+    };
+    if records.len() > 2 * room || stem >= stems {
+        return Err(BenchFault::Shape);
+    }
+    Ok(())
+}
+
+impl<D: Chart, R: Chart> Bench<D, R> {
+    ghost use Rattle.bench.specs.Benches.{SameBench, duty_on, rule_on};
+    ghost use Rattle.bench.specs.Calls.{Sized, PutTells, ReleaseTells};
+    ghost use Rattle.bench.specs.Histories.{HandsOut, Law, LedTo, NoPassed};
+
+    // Refused by 7 where the slip table does not have twice as many records as the room.
+    pub(crate) fn check_table(&self, table: &[Record]) -> Result<(), BenchFault>
+        ensures { MatchResult result (λ _. Sized self.now.room table.now) (λ e. (e ≡ faults.Room) × (Sized self.now.room table.now → ⊥)) }
+    {
+        if table.len() != 2 * self.room {
+            return Err(BenchFault::Room);
+        }
+        Ok(())
+    }
+
+    // Refused by 10 where there is a slip.
+    pub(crate) fn check_empty(&self) -> Result<(), BenchFault>
+        ensures { MatchResult result (λ _. self.now.state ≡ states.Empty) (λ e. (e ≡ faults.Occupied) × (self.now.state ≡ states.Empty → ⊥)) }
+    {
+        match self.state {
+            State::Empty => Ok(()),
+            _ => Err(BenchFault::Occupied),
+        }
+    }
+
+    fn fill(
+        &mut self,
+        kind: Kind,
+        stem: usize,
+        records: &[Record],
+        table: &mut [Record],
+    ) -> Result<(), BenchFault>
+        ensures answer { PutTells (duty_on D.Chart.meaning self.old) (rule_on R.Chart.meaning self.old) self.old.room self.old.state table.old (record { kind = kind; stem = stem; records = records.now }) self.new.state table.new result }
+        ensures bench { SameBench self.old self.new }
+    {
+        self.check_table(table)?;
+        self.check_empty()?;
+        check_fit(self.room, kind, stem, records)?;
+        let count = records.len();
+        table[..count].copy_from_slice(records);
+        self.state = State::Drafted(Form { kind, count, stem });
+        Ok(())
+    }
+
+    // Puts a slip into the first records of the table. Refused by 7 where the table does not have twice as many records as the
+    // room, then by 10 where there is a slip, then by 9 where the slip does not fit.
+    pub fn put(
+        &mut self,
+        kind: Kind,
+        stem: usize,
+        records: &[Record],
+        table: &mut [Record],
+    ) -> Result<(), BenchFault>
+        ensures answer { PutTells (duty_on D.Chart.meaning self.old) (rule_on R.Chart.meaning self.old) self.old.room self.old.state table.old (record { kind = kind; stem = stem; records = records.now }) self.new.state table.new result }
+        ensures bench { SameBench self.old self.new }
+        ensures law { Law D.Chart.meaning R.Chart.meaning self.old table.old self.new table.new (λ a b n. PutTells a b n self.old.state table.old (record { kind = kind; stem = stem; records = records.now }) self.new.state table.new result) }
+    {
+        self.fill(kind, stem, records, table)
+    }
+
+    // Takes the slip away. The table stays as it is.
+    pub fn clear(&mut self)
+        ensures state { self.new.state ≡ states.Empty }
+        ensures bench { SameBench self.old self.new }
+        ensures law { (a b : Automaton) (n : ℕ) (table : List Record) → LedTo D.Chart.meaning R.Chart.meaning a b n self.old table → LedTo D.Chart.meaning R.Chart.meaning a b n self.new table }
+    {
+        self.state = State::Empty;
+    }
+
+    fn hand_out<'a>(&self, table: &'a [Record]) -> Result<&'a [Record], BenchFault>
+        ensures answer { ReleaseTells (duty_on D.Chart.meaning self.now) (rule_on R.Chart.meaning self.now) self.now.room self.now.state table.now result }
+    {
+        self.check_table(table)?;
+        match self.state {
+            State::Empty => Err(BenchFault::Vacant),
+            State::Drafted(_) => Err(BenchFault::Unpassed),
+            State::Passed(form) => Ok(form.part(table)),
+        }
+    }
+
+    // Hands out the loop of a passed break slip, or the whole of a passed keep slip, which is a part of the table. Refused by 7 where
+    // the table does not have twice as many records as the room, then by 11 where there is no slip, then by 12 where it is not
+    // passed.
+    pub fn release<'a>(&self, table: &'a [Record]) -> Result<&'a [Record], BenchFault>
+        ensures answer { ReleaseTells (duty_on D.Chart.meaning self.now) (rule_on R.Chart.meaning self.now) self.now.room self.now.state table.now result }
+        ensures law { Law D.Chart.meaning R.Chart.meaning self.now table.now self.now table.now (λ a b n. ReleaseTells a b n self.now.state table.now result) }
+        ensures hands { (a b : Automaton) (n : ℕ) → LedTo D.Chart.meaning R.Chart.meaning a b n self.now table.now → MatchResult result (λ out. HandsOut a b self.now.state table.now out.now) (λ e. NoPassed self.now.state) }
+    {
+        self.hand_out(table)
+    }
+}

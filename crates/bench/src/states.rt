@@ -1,0 +1,42 @@
+// Whether a bench has a slip, and which.
+ghost use Rattle.std.specs.Prelude.{◌<◌, ◌≤◌, length};
+ghost use Rattle.slip.specs.Shapes.{stems};
+
+use rules::Kind;
+use search::Record;
+
+// A slip by its kind, the number of its records, which are the first of the slip table, and its loop place.
+#[derive(Clone, Copy, PartialEq, Eq, Debug)]
+pub struct Form {
+    pub kind: Kind,
+    pub count: usize,
+    // the place from which the records repeat for ever; 0 for keep
+    pub stem: usize,
+}
+
+impl Form {
+    ghost use Rattle.std.specs.Prelude.{◌≡◌};
+    ghost use Rattle.bench.specs.Slips.{handed, slip_at};
+
+    // What is handed out of the slip: the loop of a break slip, and all of a keep slip.
+    pub(crate) fn part<'a>(self, table: &'a [Record]) -> &'a [Record]
+        requires fits { self.count ≤ length table.now }
+        requires placed { self.stem < stems self.kind self.count }
+        ensures { result.now ≡ handed (slip_at self table.now) }
+    {
+        match self.kind {
+            Kind::Keep => &table[..self.count],
+            Kind::Break => &table[self.stem..self.count],
+        }
+    }
+}
+
+#[derive(Clone, Copy, PartialEq, Eq, Debug)]
+pub enum State {
+    // no slip
+    Empty,
+    // a slip that has not been inspected, or was found to break a rule
+    Drafted(Form),
+    // a slip that meets the rules of its kind
+    Passed(Form),
+}

@@ -1,0 +1,4 @@
+pub mod Sweeps
+pub mod Telling
+pub mod Meeting
+pub mod Breaches

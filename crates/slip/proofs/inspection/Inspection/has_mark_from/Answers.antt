@@ -1,0 +1,16 @@
+use Rattle.std.proofs.Common.{◌≡◌, ℕ, ◌-◌, ◌<◌, true, List, length, take, drop, Decides, subst, arith, length-drop}
+use Rattle.std.proofs.lemmas.List.{take_all}
+use Rattle.search.specs.declared.records.Record.{Record}
+use Rattle.search.specs.Tables.{node_at}
+use Rattle.slip.specs.Asked.{graph_of}
+use Rattle.slip.proofs.Sweeps.{marked_behind}
+use Rattle.slip.proofs.inspection.Inspection.has_mark_from.Goals as goal
+
+pub returns : goal.returns
+returns g c =
+    let m = graph_of g.M.Map.graph c.args.self.now in
+    let rs : List Record = c.args.self.now.slip.records.now in
+    let p = c.args.place in
+    let whole : take (length rs - p) (drop p rs) ≡ drop p rs = take_all (length rs - p) (drop p rs) (omega (arith, length-drop p rs)) in
+    marked_behind m rs p c.has_mark.result
+    (subst (λ (part : List Record). Decides c.has_mark.result ((k : ℕ) × (k < length part) × (m.marked (node_at part k) ≡ true))) whole c.has_mark.ensures)

@@ -1,0 +1,54 @@
+-- What the questions of an inspection ask.
+use Rattle.std.specs.Prelude.{◌≡◌, ℕ, ◌+◌, ◌<◌, Bool, true, false, List, length, Some, None, Option}
+use Rattle.graph.specs.Graphs.{Graph}
+use Rattle.rules.specs.Numbered.{rule_kind, rule_number}
+use Rattle.rules.specs.declared.BreakRule.{BreakRule}
+use Rattle.rules.specs.declared.KeepRule.{KeepRule}
+use Rattle.rules.specs.declared.Rule.{Rule}
+use Rattle.search.specs.declared.records.Record.{Record}
+use Rattle.search.specs.Tables.{node_at, measure_at}
+use Rattle.slip.specs.Certificates.{Certificate}
+use Rattle.slip.specs.Rules.{KeepHolds, BreakHolds, Holds}
+use Rattle.slip.specs.declared.inspection.Inspection.{Inspection}
+use Rattle.slip.specs.declared.inspection.Nodes.{Nodes}
+use Rattle.slip.specs.declared.inspection.Nodes.TheVariants.{Starts, Successors}
+
+-- the graph that a slip is inspected over
+abbrev pub graph_of : {M : Type 0} → (M → List ℕ → ℕ → Graph) → Inspection M → Graph
+graph_of graph s = graph s.map.now s.word.elements.now s.word.stem
+
+-- these nodes of a graph
+abbrev pub among : Graph → Nodes → ℕ → Bool
+among g Starts = g.start
+among g (Successors v letter) = g.edge v letter
+
+-- a measure is below the limit, if there is one
+abbrev pub Within : Option ℕ → ℕ → Type 0
+Within None m = Unit {0}
+Within (Some most) m = m < most
+
+-- some record has node v, with a measure below the limit, if there is one
+abbrev pub Held : List Record → Option ℕ → ℕ → Type 0
+Held rs most v = (k : ℕ) × (k < length rs) × (node_at rs k ≡ v) × Within most (measure_at rs k)
+
+-- what the measures behind the edges of a node of measure m are below: they fall if it is marked
+abbrev pub limit : Bool → ℕ → ℕ
+limit true m = m
+limit false m = m + 1
+
+-- the rules of keep slips and those of break slips, as an inspection asks them at place p
+abbrev pub MeetsKeep : {M : Type 0} → (M → List ℕ → ℕ → Graph) → Inspection M → ℕ → KeepRule → Type 0
+MeetsKeep graph s = KeepHolds (graph_of graph s) s.slip.records.now
+
+abbrev pub MeetsBreak : {M : Type 0} → (M → List ℕ → ℕ → Graph) → Inspection M → ℕ → BreakRule → Type 0
+MeetsBreak graph s = BreakHolds (graph_of graph s) s.slip.records.now s.slip.stem
+
+-- the rule of the lowest number that does not hold, if there is one
+abbrev pub Lowest : {R : Type 0} → (R → ℕ) → (R → Type 0) → Option R → Type 0
+Lowest {R} number Rule None = (r : R) → Rule r
+Lowest {R} number Rule (Some b) = (Rule b → ⊥) × ((r : R) → number r < number b → Rule r)
+
+-- the same of all rules at place p; only one of the slip's kind does not hold
+abbrev pub LowestAt : Graph → Certificate → ℕ → Option Rule → Type 0
+LowestAt g c p None = (r : Rule) → Holds g c p r
+LowestAt g c p (Some b) = (rule_kind b ≡ c.kind) × (Holds g c p b → ⊥) × ((r : Rule) → rule_number r < rule_number b → Holds g c p r)
