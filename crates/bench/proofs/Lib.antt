@@ -1,3 +1,5 @@
 pub mod Handing
+pub mod Deciding
+pub mod KeepSlips
 pub mod Standing
 pub mod Lasting

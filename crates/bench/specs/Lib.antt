@@ -6,3 +6,5 @@ pub mod Shown
 pub mod Making
 pub mod Calls
 pub mod Histories
+pub mod Drafting
+pub mod Examples

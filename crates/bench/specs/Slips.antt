@@ -23,6 +23,12 @@ pub record Fits (room : ℕ) (c : Certificate) : Type 0 where
   pub few : length c.records ≤ 2 * room
   pub placed : c.stem < stems c.kind (length c.records)
 
+-- the same of a form
+pub record Fitting (room : ℕ) (f : Form) : Type 0 where
+  pub few : f.count ≤ 2 * room
+  pub placed : f.stem < stems f.kind f.count
+  pub allowed : room ≤ 65536
+
 abbrev pub handed_for : Kind → ℕ → List Record → List Record
 handed_for Keep stem records = records
 handed_for Break stem records = drop stem records

@@ -1,5 +1,5 @@
 // The calls that need no search: put, inspect, release and clear.
-ghost use Rattle.std.specs.Prelude.{◌≡◌, ◌≤◌, ℕ, List, length, MatchResult};
+ghost use Rattle.std.specs.Prelude.{◌≡◌, ◌≤◌, ℕ, List, length, MatchOption, MatchResult};
 ghost use Rattle.bench.specs.Slips.{Fits};
 ghost use Rattle.bench.specs.declared.states.State.TheVariants as states;
 ghost use Rattle.chart.specs.Automata.{Automaton};
@@ -9,7 +9,8 @@ use crate::benches::Bench;
 use crate::states::{Form, State};
 use chart::Chart;
 use fault::BenchFault;
-use rules::Kind;
+use lasso::NO_WORD;
+use rules::{Breach, Kind};
 use search::Record;
 
 // Refused by 9 where the slip has more records than a slip table for the room, or its loop place does not go with its kind.
@@ -29,8 +30,11 @@ fn check_fit(room: usize, kind: Kind, stem: usize, records: &[Record]) -> Result
 
 impl<D: Chart, R: Chart> Bench<D, R> {
     ghost use Rattle.bench.specs.Benches.{SameBench, duty_on, rule_on};
-    ghost use Rattle.bench.specs.Calls.{Sized, PutTells, ReleaseTells};
+    ghost use Rattle.bench.specs.Calls.{Formed, InspectTells, PutTells, ReleaseTells, Sized};
     ghost use Rattle.bench.specs.Histories.{HandsOut, Law, LedTo, NoPassed};
+    ghost use Rattle.bench.specs.Slips.{Fitting, slip_at};
+    ghost use Rattle.rank.specs.Ranked.{ranked_graph};
+    ghost use Rattle.slip.specs.Rules.{FirstBreach, Meets};
 
     // Refused by 7 where the slip table does not have twice as many records as the room.
     pub(crate) fn check_table(&self, table: &[Record]) -> Result<(), BenchFault>
@@ -94,6 +98,50 @@ impl<D: Chart, R: Chart> Bench<D, R> {
         ensures law { (a b : Automaton) (n : ℕ) (table : List Record) → LedTo D.Chart.meaning R.Chart.meaning a b n self.old table → LedTo D.Chart.meaning R.Chart.meaning a b n self.new table }
     {
         self.state = State::Empty;
+    }
+
+    // The form of the slip, and that it fits. Refused by 11 where there is none.
+    fn form(&self) -> Result<Form, BenchFault>
+        ensures { MatchResult result (λ f. Formed self.now.state f × Fitting self.now.room f) (λ e. (e ≡ faults.Vacant) × (self.now.state ≡ states.Empty)) }
+    {
+        match self.state {
+            State::Empty => Err(BenchFault::Vacant),
+            State::Drafted(form) | State::Passed(form) => Ok(form),
+        }
+    }
+
+    // The first rule that the slip of this form breaks.
+    fn first_breach(&self, form: Form, table: &[Record]) -> Option<Breach>
+        requires sized { Sized self.now.room table.now }
+        requires fitting { Fitting self.now.room form }
+        ensures { MatchOption result (Meets (ranked_graph (duty_on D.Chart.meaning self.now) (rule_on R.Chart.meaning self.now)) (slip_at form table.now)) (FirstBreach (ranked_graph (duty_on D.Chart.meaning self.now) (rule_on R.Chart.meaning self.now)) (slip_at form table.now)) }
+    {
+        form.slip(table).first_breach(&self.map(), NO_WORD)
+    }
+
+    fn examine(&mut self, table: &[Record]) -> Result<(), BenchFault>
+        ensures answer { InspectTells (duty_on D.Chart.meaning self.old) (rule_on R.Chart.meaning self.old) self.old.room self.old.state table.now self.new.state result }
+        ensures bench { SameBench self.old self.new }
+    {
+        self.check_table(table)?;
+        let form = self.form()?;
+        if let Some(breach) = self.first_breach(form, table) {
+            self.state = State::Drafted(form);
+            return Err(BenchFault::Broken(breach));
+        }
+        self.state = State::Passed(form);
+        Ok(())
+    }
+
+    // Goes through the slip record by record, and leaves it passed if it meets the rules of its kind. Refused by 7 where the table
+    // does not have twice as many records as the room, then by 11 where there is no slip, then by 14 where a rule is broken, which
+    // leaves the slip drafted.
+    pub fn inspect(&mut self, table: &[Record]) -> Result<(), BenchFault>
+        ensures answer { InspectTells (duty_on D.Chart.meaning self.old) (rule_on R.Chart.meaning self.old) self.old.room self.old.state table.now self.new.state result }
+        ensures bench { SameBench self.old self.new }
+        ensures law { Law D.Chart.meaning R.Chart.meaning self.old table.now self.new table.now (λ a b n. InspectTells a b n self.old.state table.now self.new.state result) }
+    {
+        self.examine(table)
     }
 
     fn hand_out<'a>(&self, table: &'a [Record]) -> Result<&'a [Record], BenchFault>

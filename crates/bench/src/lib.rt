@@ -3,10 +3,14 @@
 
 mod benches;
 mod calls;
+mod drafts;
+mod examples;
+//mod judging;
 mod states;
 mod verdicts;
 
 pub use benches::Bench;
+pub use examples::examples_hold;
 pub use rules::{Breach, BreakRule, KeepRule, Kind, Rule};
 pub use search::Record;
 pub use states::{Form, State};

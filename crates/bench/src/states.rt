@@ -4,6 +4,7 @@ ghost use Rattle.slip.specs.Shapes.{stems};
 
 use rules::Kind;
 use search::Record;
+use slip::Slip;
 
 // A slip by its kind, the number of its records, which are the first of the slip table, and its loop place.
 #[derive(Clone, Copy, PartialEq, Eq, Debug)]
@@ -17,6 +18,17 @@ pub struct Form {
 impl Form {
     ghost use Rattle.std.specs.Prelude.{◌≡◌};
     ghost use Rattle.bench.specs.Slips.{handed, slip_at};
+    ghost use Rattle.slip.specs.Certificates.{content};
+
+    // The slip of this form.
+    pub(crate) fn slip(self, table: &[Record]) -> Slip<'_>
+        requires fits { self.count ≤ length table.now }
+        requires few { self.count ≤ 131072 }
+        requires placed { self.stem < stems self.kind self.count }
+        ensures { content result ≡ slip_at self table.now }
+    {
+        Slip::new(self.kind, self.stem, &table[..self.count]).unwrap()
+    }
 
     // What is handed out of the slip: the loop of a break slip, and all of a keep slip.
     pub(crate) fn part<'a>(self, table: &'a [Record]) -> &'a [Record]

@@ -29,16 +29,20 @@ rule_told (of.Break breaks.Next) = refl
 rule_told (of.Break breaks.Mark) = refl
 
 pub same_rule : (r s : Rule) → rule_kind r ≡ rule_kind s → rule_number r ≡ rule_number s → r ≡ s
-same_rule r s kind number = sym (rule_told r) ∙ (ap (λ k. rule_of k (rule_number r)) kind ∙ (ap (rule_of (rule_kind s)) number ∙ rule_told s))
+same_rule r s kind number =
+    sym (rule_told r) ∙ (ap (λ k. rule_of k (rule_number r)) kind ∙ (ap (rule_of (rule_kind s)) number ∙ rule_told s))
 
 module _ (g : Graph) (c : Certificate) where
   not_before : (b d : Breach) → FirstBreach g c b → FirstBreach g c d → d.place ≤ b.place
   not_before b d fb fd =
-      ⊎_elim (λ (lt : b.place < d.place). absurd (fb.broken (fd.before b.place b.rule lt))) (λ (le : d.place ≤ b.place). le) (cases_lt b.place d.place)
+      ⊎_elim (λ (lt : b.place < d.place). absurd (fb.broken (fd.before b.place b.rule lt)))
+      (λ (le : d.place ≤ b.place). le) (cases_lt b.place d.place)
 
   not_lower : (b d : Breach) → FirstBreach g c b → FirstBreach g c d → b.place ≡ d.place → rule_number d.rule ≤ rule_number b.rule
   not_lower b d fb fd e =
-      ⊎_elim (λ (lt : rule_number b.rule < rule_number d.rule). absurd (fb.broken (subst (λ p. Holds g c p b.rule) (sym e) (fd.lower b.rule lt))))
+      ⊎_elim
+      (λ (lt : rule_number b.rule < rule_number d.rule).
+      absurd (fb.broken (subst (λ p. Holds g c p b.rule) (sym e) (fd.lower b.rule lt))))
       (λ (le : rule_number d.rule ≤ rule_number b.rule). le) (cases_lt (rule_number b.rule) (rule_number d.rule))
 
   pub first_breach_once : (b d : Breach) → FirstBreach g c b → FirstBreach g c d → b ≡ d

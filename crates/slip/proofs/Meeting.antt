@@ -30,12 +30,13 @@ module _ (g : Graph) (bounds : Bounded g) (rs : List Record) (m : Measured g rs)
       let v = node_at rs p in
       let edge : Edge g v w = (l, (bounds.edges v l w e).1, e) in
       let (k, lt, is) = m.whole w (go (m.reached p h) edge) in
-      let there : Edge g v (node_at rs k) = subst (λ x. Edge g v x) (sym is) edge in (
+      let u = node_at rs k in
+      let there : Edge g v u = subst (λ x. Edge g v x) (sym is) edge in (
         k,
         lt,
         is,
-        measure_path g v (node_at rs k) (measure_at rs p) (measure_at rs k) (m.measures p h) (m.measures k lt) (path_edge g there),
-        λ marked. measure_falls g v (node_at rs k) (measure_at rs p) (measure_at rs k) marked (m.measures p h) (m.measures k lt) there,
+        measure_path g v u (measure_at rs p) (measure_at rs k) (m.measures p h) (m.measures k lt) (path_edge g there),
+        λ marked. measure_falls g v u (measure_at rs p) (measure_at rs k) marked (m.measures p h) (m.measures k lt) there,
       )
   measured_holds p keeps.Starts = λ e v s. m.whole v (begin s)
 

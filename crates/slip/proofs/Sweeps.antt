@@ -20,7 +20,8 @@ module _ (P : ℕ → Bool) (Q : ℕ → Type 0) (from : ℕ) (passed : (v : ℕ
   swept_more u least q v e lt =
       ⊎_elim (λ (a : v < from). passed v e a)
       (λ (a : from ≤ v).
-      ⊎_elim (λ (b : v < u). absurd (least.2 v a b e)) (λ (b : u ≤ v). let is : u ≡ v = omega arith in subst Q is q) (cases_lt v u))
+      ⊎_elim (λ (b : v < u). absurd (least.2 v a b e))
+      (λ (b : u ≤ v). let is : u ≡ v = omega arith in subst Q is q) (cases_lt v u))
       (cases_lt v from)
 
   pub swept_all : Least P from None → (v : ℕ) → P v ≡ true → Q v
@@ -40,12 +41,14 @@ pub marked_behind : (g : Graph) (rs : List Record) (p : ℕ) (r : Bool)
 marked_behind g rs p r (found, told) = (
   λ e.
       let (k, lt, holds) = found e in
-      (p + k, omega arith, omega (arith, length-drop p rs), subst (λ (x : Record). g.marked x.node ≡ true) (get_or-drop p rs k blank) holds),
+      let same = get_or-drop p rs k blank in
+      (p + k, omega arith, omega (arith, length-drop p rs), subst (λ (x : Record). g.marked x.node ≡ true) same holds),
   λ (k, le, lt, holds).
       let back : p + (k - p) ≡ k = omega arith in
+      let same = get_or-drop p rs (k - p) blank ∙ ap (λ i. get_or rs i blank) back in
       told (
         k - p,
         omega (arith, length-drop p rs),
-        subst (λ (x : Record). g.marked x.node ≡ true) (sym (get_or-drop p rs (k - p) blank ∙ ap (λ i. get_or rs i blank) back)) holds,
+        subst (λ (x : Record). g.marked x.node ≡ true) (sym same) holds,
       ),
 )

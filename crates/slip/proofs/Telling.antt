@@ -37,7 +37,8 @@ letter_same rs k h = get_or-map (λ (r : Record). r.letter) rs k blank 0 h
 
 module _ (g : Graph) (stem : ℕ) (rs : List Record) (shaped : Shaped Break (length rs) stem)
     (meets : (p : ℕ) (r : Rule) → HoldsFor g Break stem rs p r) where
-  lasso_by : (letter : ℕ → ℕ) → ((k : ℕ) → k < length rs → letter k ≡ letter_at rs k) → MarkedLasso g (node_at rs) letter (length rs) stem
+  lasso_by : (letter : ℕ → ℕ) → ((k : ℕ) → k < length rs → letter k ≡ letter_at rs k)
+      → MarkedLasso g (node_at rs) letter (length rs) stem
   lasso_by letter same =
       record {
         loops = shaped.placed;
@@ -88,5 +89,5 @@ pub meets_shows : (a b : Automaton) → Charts a b → (c : Certificate) → Sha
 meets_shows a b charts c shaped meets = meets_shows_for a b charts c.kind c.stem c.records shaped meets
 
 -- a slip has a shape that goes with its kind
-pub shaped : (s : Slip) → Shaped (content s).kind (length (content s).records) (content s).stem
-shaped s = record { placed = s.placed; few = s.few }
+pub slip_shaped : (s : Slip) → Shaped (content s).kind (length (content s).records) (content s).stem
+slip_shaped s = record { placed = s.placed; few = s.few }

@@ -48,7 +48,8 @@ abbrev pub Lowest : {R : Type 0} → (R → ℕ) → (R → Type 0) → Option R
 Lowest {R} number Rule None = (r : R) → Rule r
 Lowest {R} number Rule (Some b) = (Rule b → ⊥) × ((r : R) → number r < number b → Rule r)
 
--- the same of all rules at place p; only one of the slip's kind does not hold
+-- the same of a slip at place p, where the rule is one of the slip's kind
 abbrev pub LowestAt : Graph → Certificate → ℕ → Option Rule → Type 0
 LowestAt g c p None = (r : Rule) → Holds g c p r
-LowestAt g c p (Some b) = (rule_kind b ≡ c.kind) × (Holds g c p b → ⊥) × ((r : Rule) → rule_number r < rule_number b → Holds g c p r)
+LowestAt g c p (Some b) =
+    (rule_kind b ≡ c.kind) × (Holds g c p b → ⊥) × ((r : Rule) → rule_number r < rule_number b → Holds g c p r)

@@ -1,4 +1,1 @@
-pub mod Verdicts
-pub mod Telling
-pub mod Examples
-pub mod Shown
+pub mod Certified

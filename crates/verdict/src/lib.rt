@@ -1,11 +1,7 @@
-// Whether the rule takes every repeating word that the duty takes, as the ranked graph of the two charts tells it.
+// Verdicts with their certificates, by way of a bench: a slip is judged or put, inspected, and handed out.
 #![tactic(auto)]
 
-mod deciding;
-mod examples;
-mod verdicts;
+mod certifying;
 
-pub use deciding::decide;
-pub use examples::examples_hold;
-pub use search::Record;
-pub use verdicts::{Kind, Verdict};
+pub use bench::{Kind, Record, Verdict};
+pub use certifying::{Certified, confirm, decide};

@@ -11,8 +11,8 @@ returns-in_default-checked_add g c =
     let last : c.in-Some.node + 1 < 2 ^ 64 → ⊥ = c.in_default-checked_add.ensures in
     let high : 2 ^ 64 ≤ c.in-Some.node + 1 = omega arith in (
       λ e.
-          swept_last m bounds c.args.nodes (Held s.slip.records.now c.args.limit) c.loop-node.from c.in-Some.node c.loop-node.invariant
-          c.in-Some.ensures (c.is_held.ensures.0 c.if-not-is_held.false) high,
+          swept_last m bounds c.args.nodes (Held s.slip.records.now c.args.limit) c.loop-node.from c.in-Some.node
+          c.loop-node.invariant c.in-Some.ensures (c.is_held.ensures.0 c.if-not-is_held.false) high,
       λ h. refl,
     )
 

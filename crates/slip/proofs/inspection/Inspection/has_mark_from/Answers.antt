@@ -11,6 +11,8 @@ returns g c =
     let m = graph_of g.M.Map.graph c.args.self.now in
     let rs : List Record = c.args.self.now.slip.records.now in
     let p = c.args.place in
-    let whole : take (length rs - p) (drop p rs) ≡ drop p rs = take_all (length rs - p) (drop p rs) (omega (arith, length-drop p rs)) in
+    let Found : List Record → Type 0 = λ part. (k : ℕ) × (k < length part) × (m.marked (node_at part k) ≡ true) in
+    let whole : take (length rs - p) (drop p rs) ≡ drop p rs =
+    take_all (length rs - p) (drop p rs) (omega (arith, length-drop p rs)) in
     marked_behind m rs p c.has_mark.result
-    (subst (λ (part : List Record). Decides c.has_mark.result ((k : ℕ) × (k < length part) × (m.marked (node_at part k) ≡ true))) whole c.has_mark.ensures)
+    (subst (λ part. Decides c.has_mark.result (Found part)) whole c.has_mark.ensures)

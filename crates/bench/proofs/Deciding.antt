@@ -9,15 +9,14 @@ use Rattle.graph.proofs.Unrolled.{loop_word, word_good, word_lasso}
 use Rattle.rank.specs.Containment.{Charts, Included, Differs}
 use Rattle.rank.specs.Ranked.{ranked_graph}
 use Rattle.rank.proofs.Deciding.{cycles_decide, lassos_tell}
-use Rattle.search.specs.Surveys.{Allowed, Collected, Surveyed, Told}
+use Rattle.search.specs.Surveys.{Collected, Surveyed, Told}
 use Rattle.search.specs.Tables.{node_at}
 use Rattle.search.specs.declared.records.Record.{Record}
 use Rattle.search.specs.declared.surveys.Findings.{Findings}
-use Rattle.verdict.specs.Telling.{kind_of, verdict_of}
-use Rattle.verdict.specs.Verdicts.{Decides, Forbidden, IsVerdict}
-use Rattle.verdict.specs.declared.verdicts.Kind.{Kind}
-use Rattle.verdict.specs.declared.verdicts.Kind.TheVariants.{Keep, Break}
-use Rattle.verdict.specs.declared.verdicts.Verdict.{Verdict}
+use Rattle.bench.specs.Drafting.{kind_of, verdict_of}
+use Rattle.bench.specs.Verdicts.{Decides, Forbidden, IsVerdict}
+use Rattle.rules.specs.declared.Kind.{Kind}
+use Rattle.rules.specs.declared.Kind.TheVariants.{Keep, Break}
 
 -- a marked cycle among few nodes has a short loop, whose letters are the word
 pub cycle_forbidden : (a b : Automaton) → Charts a b → (n : ℕ) → n ≤ 65536 → Count (ranked_graph a b) n → MarkedCycle (ranked_graph a b) → Forbidden a b
@@ -59,26 +58,16 @@ broken : (a b : Automaton) (k : Kind) → IsVerdict a b k → k ≡ Break → Fo
 broken a b Break f e = f
 broken a b Keep all e = absurd (cc)
 
--- a search of the ranked graph of two charts that mean the same
-module _ (a b a' b' : Automaton) (same_duty : a' ≡ a) (same_rule : b' ≡ b) (g : Graph) (same : g ≡ ranked_graph a' b') where
-  moved : (P : Graph → Type 0) → P g → P (ranked_graph a b)
-  moved P x =
-      subst (λ r. P (ranked_graph a r)) same_rule (subst (λ d. P (ranked_graph d b')) same_duty (subst P same x))
-
-  pub answer_decide : Charts a b → a.letters ≡ b.letters → (room n : ℕ) → Allowed room → n ≡ room → (work : List Record) → length work ≡ n
-      → (found : Findings) (v : Verdict) → v ≡ verdict_of found → Surveyed g work found → Decides a b room n v
-  answer_decide charts letters room n allowed table work len found v is s' =
-      let s = moved (λ x. Surveyed x work found) s' in
-      let count = collected_count (ranked_graph a b) found.count work s.collected in
-      let told = told_verdict a b charts found.count (omega (arith, s.collected.fits, allowed.few_records)) count work found.witness s.told in
-      rw is (record {
-        letters = letters;
-        few_states = charts.few_states;
-        allowed = allowed;
-        table = table;
-        count = count;
-        fits = omega (arith, s.collected.fits);
-        breaks = breaks_exactly a b (kind_of found.witness) told;
-        keeps = keeps_exactly a b (kind_of found.witness) told;
-        word = broken a b (kind_of found.witness) told;
-      })
+pub survey_decides : (a b : Automaton) → Charts a b → (work : List Record) (found : Findings) → Surveyed (ranked_graph a b) work found
+    → Decides a b (length work) (verdict_of found)
+survey_decides a b charts work found s =
+    let count = collected_count (ranked_graph a b) found.count work s.collected in
+    let told =
+    told_verdict a b charts found.count (omega (arith, s.collected.fits, s.allowed.few_records)) count work found.witness s.told in
+    record {
+      count = count;
+      fits = s.collected.fits;
+      breaks = breaks_exactly a b (kind_of found.witness) told;
+      keeps = keeps_exactly a b (kind_of found.witness) told;
+      word = broken a b (kind_of found.witness) told;
+    }

@@ -1,0 +1,51 @@
+-- What the parts of judge promise each other.
+use Rattle.std.specs.Prelude.{◌≡◌, ℕ, ◌<◌, List, length, Some, None, Option}
+use Rattle.bench.specs.Calls.{Drafts}
+use Rattle.bench.specs.Slips.{form_of, over}
+use Rattle.bench.specs.Verdicts.{Decides}
+use Rattle.bench.specs.declared.states.Form.{Form}
+use Rattle.bench.specs.declared.verdicts.Verdict.{Verdict}
+use Rattle.chart.specs.Automata.{Automaton}
+use Rattle.fault.specs.declared.BenchFault.{BenchFault}
+use Rattle.fault.specs.declared.BenchFault.TheVariants.{Search}
+use Rattle.fault.specs.declared.SearchFault.TheVariants.{Full}
+use Rattle.graph.specs.Graphs.{Graph}
+use Rattle.graph.specs.Walks.{More}
+use Rattle.rank.specs.Ranked.{ranked_graph}
+use Rattle.rules.specs.declared.Kind.{Kind}
+use Rattle.rules.specs.declared.Kind.TheVariants.{Keep, Break}
+use Rattle.search.specs.Tables.{node_at, letter_at, measure_at}
+use Rattle.search.specs.declared.records.Record.{Record}
+use Rattle.search.specs.declared.surveys.Findings.{Findings}
+use Rattle.slip.specs.Certificates.{Certificate}
+
+-- the letters are 0, and all else is as it was
+pub record Cleared (was now : List Record) : Type 0 where
+  pub same_length : length now ≡ length was
+  pub nodes : (i : ℕ) → node_at now i ≡ node_at was i
+  pub measures : (i : ℕ) → measure_at now i ≡ measure_at was i
+  pub letters : (i : ℕ) → i < length now → letter_at now i ≡ 0
+
+-- a slip for the verdict stands in the first records of the table, and the others are as they were
+pub record Wrote (g : Graph) (room : ℕ) (v : Verdict) (was table : List Record) (f : Form) : Type 0 where
+  pub slip : Certificate
+  pub drafts : Drafts g room v slip
+  pub form : f ≡ form_of slip
+  pub changed : table ≡ over slip.records was
+
+-- the kind that a search of the ranked graph tells: its witness is a reachable marked node on a cycle
+abbrev pub kind_of : Option ℕ → Kind
+kind_of None = Keep
+kind_of (Some v) = Break
+
+abbrev pub verdict_of : Findings → Verdict
+verdict_of found = record { kind = kind_of found.witness; nodes = found.count }
+
+module _ (a b : Automaton) (room : ℕ) (was table : List Record) where
+  pub record Searched (v : Verdict) (f : Form) : Type 0 where
+    pub decides : Decides a b room v
+    pub wrote : Wrote (ranked_graph a b) room v was table f
+
+  abbrev pub SearchRefused : BenchFault → Type 0
+  SearchRefused (Search Full) = More (ranked_graph a b) room × (table ≡ was)
+  SearchRefused _ = ⊥

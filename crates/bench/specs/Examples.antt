@@ -1,0 +1,76 @@
+-- Small charts, the verdicts on them, and slips over them, which were worked out apart from the definitions.
+use Rattle.std.specs.Prelude.{ℕ, List, [], ◌∷◌, map}
+use Rattle.std.specs.List.{All}
+use Rattle.bench.specs.Slips.{Fits}
+use Rattle.bench.specs.Verdicts.{IsVerdict}
+use Rattle.chart.specs.Automata.{Automaton}
+use Rattle.graph.specs.Walks.{Count, More}
+use Rattle.rank.specs.Containment.{Charts}
+use Rattle.rank.specs.Examples.{TableChart, means, marked_loop, unmarked_loop, no_start, still}
+use Rattle.rank.specs.Ranked.{ranked_graph}
+use Rattle.rules.specs.declared.Breach.{Breach}
+use Rattle.rules.specs.declared.BreakRule.TheVariants as breaks
+use Rattle.rules.specs.declared.KeepRule.TheVariants as keeps
+use Rattle.rules.specs.declared.Kind.{Kind}
+use Rattle.rules.specs.declared.Kind.TheVariants.{Keep, Break}
+use Rattle.rules.specs.declared.Rule.TheVariants as of
+use Rattle.search.specs.declared.records.Record.{Record}
+use Rattle.slip.specs.Certificates.{Certificate}
+use Rattle.slip.specs.Rules.{FirstBreach, Meets}
+
+-- what is told of a duty and a rule
+pub data Told : Type 0 where
+  -- the verdict, and how many nodes can be reached
+  verdict : Kind → ℕ → Told
+  -- more nodes can be reached than this room has
+  full : ℕ → Told
+  -- in a room of 6, the slip passes inspection
+  passes : Certificate → Told
+  -- in a room of 6, the slip has this breach, which is its first
+  breaks : Certificate → Breach → Told
+
+pub record Example : Type 0 where
+  pub duty : TableChart
+  pub rule : TableChart
+  pub told : Told
+
+abbrev pub example : TableChart → TableChart → Told → Example
+example duty rule told = record { duty = duty; rule = rule; told = told }
+
+-- a slip of records with these nodes, whose letters and measures are 0
+abbrev pub slip : Kind → ℕ → List ℕ → Certificate
+slip kind stem nodes =
+    record { kind = kind; stem = stem; records = map (λ v. record { node = v; letter = 0; measure = 0 }) nodes }
+
+abbrev pub examples : List Example
+examples =
+    example marked_loop unmarked_loop (verdict Break 6)
+    ∷ example marked_loop marked_loop (verdict Keep 3)
+    ∷ example unmarked_loop unmarked_loop (verdict Keep 4)
+    ∷ example marked_loop (still 1) (verdict Break 3)
+    ∷ example marked_loop no_start (verdict Break 2)
+    ∷ example (still 1) unmarked_loop (verdict Keep 1)
+    ∷ example no_start unmarked_loop (verdict Keep 0)
+    ∷ example marked_loop unmarked_loop (full 5)
+    ∷ example marked_loop unmarked_loop (passes (slip Break 1 (12288 ∷ 8224 ∷ 8192 ∷ [])))
+    ∷ example marked_loop unmarked_loop
+    (breaks (slip Break 2 (12288 ∷ 8224 ∷ 8192 ∷ [])) (record { rule = of.Break breaks.Next; place = 2 }))
+    ∷ example marked_loop marked_loop (passes (slip Keep 0 (12288 ∷ 12384 ∷ 4192 ∷ [])))
+    ∷ example marked_loop marked_loop
+    (breaks (slip Keep 0 (12288 ∷ 12384 ∷ [])) (record { rule = of.Keep keeps.Next; place = 0 }))
+    ∷ example marked_loop unmarked_loop
+    (breaks (slip Keep 0 (12288 ∷ 12384 ∷ 8224 ∷ 4192 ∷ 8192 ∷ 4160 ∷ [])) (record { rule = of.Keep keeps.Next; place = 2 }))
+    ∷ []
+
+abbrev pub HoldsFor : Automaton → Automaton → Told → Type 0
+HoldsFor a b (verdict kind nodes) = Count (ranked_graph a b) nodes × IsVerdict a b kind
+HoldsFor a b (full room) = More (ranked_graph a b) room
+HoldsFor a b (passes c) = Fits 6 c × Meets (ranked_graph a b) c
+HoldsFor a b (breaks c breach) = Fits 6 c × FirstBreach (ranked_graph a b) c breach
+
+pub record Holds (e : Example) : Type 0 where
+  pub charts : Charts (means e.duty) (means e.rule)
+  pub told : HoldsFor (means e.duty) (means e.rule) e.told
+
+abbrev pub ExamplesHold : Type 0
+ExamplesHold = All Holds examples

@@ -1,0 +1,36 @@
+// The slips that judge writes into the first records of the table.
+ghost use Rattle.std.specs.Prelude.{[], None, ◌≡◌, ◌≤◌, ◌*◌, ℕ, length};
+ghost use Rattle.bench.specs.Drafting.{Cleared, Wrote};
+ghost use Rattle.graph.specs.Graphs.{Graph, Bounded};
+ghost use Rattle.graph.specs.Walks.{More, Recurring};
+ghost use Rattle.rules.specs.declared.Kind.TheVariants as kinds;
+ghost use Rattle.search.specs.Surveys.{Allowed, Collected, Told};
+
+use crate::states::Form;
+use graph::Map;
+use lasso::NO_WORD;
+use rules::Kind;
+use search::Record;
+
+// The letters of records, which a search leaves as they come, are cleared.
+fn clear_letters(records: &mut [Record])
+    ensures { Cleared records.old records.new }
+{
+    for record in records {
+        record.letter = 0;
+    }
+}
+
+// Writes a slip of what a search has found: each node once, with its measure.
+pub(crate) fn write_keep(count: usize, work: &mut [Record], table: &mut [Record]) -> Form
+    requires { (count ≤ length work.old) × (count ≤ length table.old) }
+    ensures { (g : Graph) (room : ℕ) → Bounded g → Collected g count work.old → Told g count work.old None → count ≤ 2 * room → Wrote g room (record { kind = kinds.Keep; nodes = count }) table.old table.new result }
+{
+    clear_letters(&mut work[..count]);
+    table[..count].copy_from_slice(&work[..count]);
+    Form {
+        kind: Kind::Keep,
+        count,
+        stem: 0,
+    }
+}
