@@ -27,7 +27,7 @@ pub data Told : Type 0 where
   -- in a room of 6, the slip passes inspection
   passes : Certificate → Told
   -- in a room of 6, the slip has this breach, which is its first
-  breaks : Certificate → Breach → Told
+  refused : Certificate → Breach → Told
 
 pub record Example : Type 0 where
   pub duty : TableChart
@@ -54,19 +54,19 @@ examples =
     ∷ example marked_loop unmarked_loop (full 5)
     ∷ example marked_loop unmarked_loop (passes (slip Break 1 (12288 ∷ 8224 ∷ 8192 ∷ [])))
     ∷ example marked_loop unmarked_loop
-    (breaks (slip Break 2 (12288 ∷ 8224 ∷ 8192 ∷ [])) (record { rule = of.Break breaks.Next; place = 2 }))
+    (refused (slip Break 2 (12288 ∷ 8224 ∷ 8192 ∷ [])) (record { rule = of.Break breaks.Next; place = 2 }))
     ∷ example marked_loop marked_loop (passes (slip Keep 0 (12288 ∷ 12384 ∷ 4192 ∷ [])))
     ∷ example marked_loop marked_loop
-    (breaks (slip Keep 0 (12288 ∷ 12384 ∷ [])) (record { rule = of.Keep keeps.Next; place = 0 }))
+    (refused (slip Keep 0 (12288 ∷ 12384 ∷ [])) (record { rule = of.Keep keeps.Next; place = 0 }))
     ∷ example marked_loop unmarked_loop
-    (breaks (slip Keep 0 (12288 ∷ 12384 ∷ 8224 ∷ 4192 ∷ 8192 ∷ 4160 ∷ [])) (record { rule = of.Keep keeps.Next; place = 2 }))
+    (refused (slip Keep 0 (12288 ∷ 12384 ∷ 8224 ∷ 4192 ∷ 8192 ∷ 4160 ∷ [])) (record { rule = of.Keep keeps.Next; place = 2 }))
     ∷ []
 
 abbrev pub HoldsFor : Automaton → Automaton → Told → Type 0
 HoldsFor a b (verdict kind nodes) = Count (ranked_graph a b) nodes × IsVerdict a b kind
 HoldsFor a b (full room) = More (ranked_graph a b) room
 HoldsFor a b (passes c) = Fits 6 c × Meets (ranked_graph a b) c
-HoldsFor a b (breaks c breach) = Fits 6 c × FirstBreach (ranked_graph a b) c breach
+HoldsFor a b (refused c breach) = Fits 6 c × FirstBreach (ranked_graph a b) c breach
 
 pub record Holds (e : Example) : Type 0 where
   pub charts : Charts (means e.duty) (means e.rule)
