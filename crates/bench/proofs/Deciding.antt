@@ -1,5 +1,5 @@
 -- What a search of the ranked graph tells of the duty and the rule.
-use Rattle.std.proofs.Common.{◌≡◌, ℕ, ◌≤◌, List, length, Some, None, Option, refl, subst, arith}
+use Rattle.std.proofs.Common.{◌≡◌, ◌∙◌, ℕ, ◌≤◌, List, length, Some, None, Option, refl, subst, arith}
 use Rattle.std.specs.Prelude.{◌↔◌}
 use Rattle.chart.specs.Automata.{Automaton}
 use Rattle.graph.specs.Graphs.{Graph}
@@ -13,8 +13,10 @@ use Rattle.search.specs.Surveys.{Collected, Surveyed, Told}
 use Rattle.search.specs.Tables.{node_at}
 use Rattle.search.specs.declared.records.Record.{Record}
 use Rattle.search.specs.declared.surveys.Findings.{Findings}
-use Rattle.bench.specs.Drafting.{kind_of, verdict_of}
+use Rattle.bench.specs.Drafting.{Searched, Wrote, kind_of, verdict_of}
 use Rattle.bench.specs.Verdicts.{Decides, Forbidden, IsVerdict}
+use Rattle.bench.specs.declared.states.Form.{Form}
+use Rattle.bench.specs.declared.verdicts.Verdict.{Verdict}
 use Rattle.rules.specs.declared.Kind.{Kind}
 use Rattle.rules.specs.declared.Kind.TheVariants.{Keep, Break}
 
@@ -71,3 +73,19 @@ survey_decides a b charts work found s =
       keeps = keeps_exactly a b (kind_of found.witness) told;
       word = broken a b (kind_of found.witness) told;
     }
+
+-- what was searched is the ranked graph of two charts that mean the same
+pub search_tells : (a b a' b' : Automaton) → a' ≡ a → b' ≡ b → Charts a b → (room n : ℕ) → n ≡ room → (work : List Record) → length work ≡ n
+    → (found : Findings) → Surveyed (ranked_graph a' b') work found → (was table : List Record) (v : Verdict) → v ≡ verdict_of found → (f : Form)
+    → Wrote (ranked_graph a' b') (length work) (verdict_of found) was table f → Searched a b room was table v f
+search_tells a b a' b' duty rule charts room n enough work len found surveyed was table v is f wrote =
+    let moved : (P : Graph → Type 0) → P (ranked_graph a' b') → P (ranked_graph a b) =
+    λ P x. subst (λ r. P (ranked_graph a r)) rule (subst (λ d. P (ranked_graph d b')) duty x) in
+    let same : length work ≡ room = len ∙ enough in
+    let decides = survey_decides a b charts work found (moved (λ g. Surveyed g work found) surveyed) in
+    rw is (record {
+      decides = subst (λ k. Decides a b k (verdict_of found)) same decides;
+      wrote =
+          subst (λ k. Wrote (ranked_graph a b) k (verdict_of found) was table f) same
+          (moved (λ g. Wrote g (length work) (verdict_of found) was table f) wrote);
+    })

@@ -62,7 +62,7 @@ module _ (a b : Automaton) (room : ℕ) (s : State) (table : List Record) where
   inspect_kept s' (Err e) i unsized = absurd i
 
 module _ {D R : Type 0} (meaning_d : D → Automaton) (meaning_r : R → Automaton) where
-  charts_on : (s : Bench D R) → Charts (duty_on meaning_d s) (rule_on meaning_r s)
+  pub charts_on : (s : Bench D R) → Charts (duty_on meaning_d s) (rule_on meaning_r s)
   charts_on s =
       record {
         duty = fitted_of_limits meaning_d s.duty;

@@ -1,3 +1,4 @@
+pub mod BreakSlips
 pub mod Handing
 pub mod Deciding
 pub mod KeepSlips

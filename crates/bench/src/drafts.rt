@@ -10,7 +10,7 @@ use crate::states::Form;
 use graph::Map;
 use lasso::NO_WORD;
 use rules::Kind;
-use search::Record;
+use search::{Record, write_lasso};
 
 // The letters of records, which a search leaves as they come, are cleared.
 fn clear_letters(records: &mut [Record])
@@ -32,5 +32,26 @@ pub(crate) fn write_keep(count: usize, work: &mut [Record], table: &mut [Record]
         kind: Kind::Keep,
         count,
         stem: 0,
+    }
+}
+
+// Writes a slip of a lasso through a marked node that a search has found.
+pub(crate) fn write_break<M: Map>(
+    map: &M,
+    node: u64,
+    work: &mut [Record],
+    table: &mut [Record],
+) -> Form
+    requires found { Recurring (M.Map.graph map.now [] 0) node }
+    requires allowed { Allowed (length work.old) }
+    requires room { More (M.Map.graph map.now [] 0) (length work.old) → ⊥ }
+    requires sized { length table.old ≡ 2 * length work.old }
+    ensures { (n : ℕ) → Wrote (M.Map.graph map.now [] 0) (length work.old) (record { kind = kinds.Break; nodes = n }) table.old table.new result }
+{
+    let course = write_lasso(map, NO_WORD, node, work, table).unwrap();
+    Form {
+        kind: Kind::Break,
+        count: course.count,
+        stem: course.stem,
     }
 }

@@ -5,7 +5,7 @@ mod benches;
 mod calls;
 mod drafts;
 mod examples;
-//mod judging;
+mod judging;
 mod states;
 mod verdicts;
 

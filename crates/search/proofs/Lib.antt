@@ -16,3 +16,6 @@ pub mod Raising
 pub mod Retiring
 pub mod Stepping
 pub mod Visiting
+pub mod Queueing
+pub mod Tracing
+pub mod Lassos

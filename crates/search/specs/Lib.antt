@@ -6,3 +6,6 @@ pub mod Trees
 pub mod Changes
 pub mod Searches
 pub mod Weights
+pub mod Trips
+pub mod Ways
+pub mod Courses

@@ -45,7 +45,7 @@ impl<'a, M: Map> ImplicitGraph<'a, M> {
     }
 
     // The nodes from `from` on, in rising order.
-    fn rising(&self, nodes: Nodes, from: u64) -> Rising<'a, M>
+    pub(crate) fn rising(&self, nodes: Nodes, from: u64) -> Rising<'a, M>
         ensures graph { result.graph ≡ self.now }
         ensures nodes { result.nodes ≡ nodes }
         ensures from { result.from ≡ Some from }

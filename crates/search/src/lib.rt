@@ -2,8 +2,10 @@
 // connected components: the stack grows from the table's front, finished components from its back.
 #![tactic(auto)]
 
+mod courses;
 mod explores;
 mod graphs;
+mod queues;
 mod records;
 mod scans;
 mod spots;
@@ -11,5 +13,6 @@ mod surveys;
 mod tables;
 mod weights;
 
+pub use courses::{Course, write_lasso};
 pub use records::Record;
 pub use surveys::{Findings, check_table, survey};

@@ -1,5 +1,5 @@
 // What a table has at each place.
-ghost use Rattle.std.specs.Prelude.{◌≡◌, ◌+◌, ◌*◌, ◌/◌, ◌%◌, ◌<◌};
+ghost use Rattle.std.specs.Prelude.{◌≡◌, suc, ◌+◌, ◌*◌, ◌/◌, ◌%◌, ◌<◌, MatchOption};
 
 // A node of a map, a letter, and a measure.
 #[derive(Clone, Copy, PartialEq, Eq, Default, Debug)]
@@ -34,5 +34,14 @@ impl Record {
         ensures { result ≡ self.measure / 65536 }
     {
         (self.measure / 65536) as usize
+    }
+}
+
+// In a queue a record's measure is one more than the place of the record before it on the way to its node, or 0 where there is none.
+impl Record {
+    pub(crate) fn before(self) -> Option<usize>
+        ensures { MatchOption result (self.measure ≡ 0) (λ place. self.measure ≡ suc place) }
+    {
+        (self.measure as usize).checked_sub(1)
     }
 }

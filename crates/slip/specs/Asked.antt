@@ -45,8 +45,8 @@ MeetsBreak graph s = BreakHolds (graph_of graph s) s.slip.records.now s.slip.ste
 
 -- the rule of the lowest number that does not hold, if there is one
 abbrev pub Lowest : {R : Type 0} → (R → ℕ) → (R → Type 0) → Option R → Type 0
-Lowest {R} number Rule None = (r : R) → Rule r
-Lowest {R} number Rule (Some b) = (Rule b → ⊥) × ((r : R) → number r < number b → Rule r)
+Lowest {R} number Met None = (r : R) → Met r
+Lowest {R} number Met (Some b) = (Met b → ⊥) × ((r : R) → number r < number b → Met r)
 
 -- the same of a slip at place p, where the rule is one of the slip's kind
 abbrev pub LowestAt : Graph → Certificate → ℕ → Option Rule → Type 0

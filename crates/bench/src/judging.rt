@@ -1,0 +1,99 @@
+// Judge: the search of the ranked graph, and the slip that it leaves.
+ghost use Rattle.std.specs.Prelude.{◌≡◌, ◌*◌, length, [], MatchResult};
+ghost use Rattle.bench.specs.Drafting.{Wrote, verdict_of};
+ghost use Rattle.search.specs.Surveys.{Surveyed};
+
+use crate::benches::Bench;
+use crate::drafts::{write_break, write_keep};
+use crate::states::{Form, State};
+use crate::verdicts::Verdict;
+use chart::Chart;
+use fault::BenchFault;
+use graph::Map;
+use lasso::NO_WORD;
+use rules::Kind;
+use search::{Findings, Record, survey};
+
+// What the search says of the two charts.
+fn tell(found: Findings) -> Verdict
+    ensures { result ≡ verdict_of found }
+{
+    let kind = match found.witness {
+        None => Kind::Keep,
+        Some(_) => Kind::Break,
+    };
+    Verdict {
+        kind,
+        nodes: found.count,
+    }
+}
+
+// Writes a slip for what the search of a graph has found.
+fn write_slip<M: Map>(
+    map: &M,
+    found: Findings,
+    work: &mut [Record],
+    table: &mut [Record],
+) -> Form
+    requires surveyed { Surveyed (M.Map.graph map.now [] 0) work.old found }
+    requires sized { length table.old ≡ 2 * length work.old }
+    ensures { Wrote (M.Map.graph map.now [] 0) (length work.old) (verdict_of found) table.old table.new result }
+{
+    match found.witness {
+        None => write_keep(found.count, work, table),
+        Some(node) => write_break(map, node, work, table),
+    }
+}
+
+impl<D: Chart, R: Chart> Bench<D, R> {
+    ghost use Rattle.bench.specs.Benches.{SameBench, duty_on, rule_on};
+    ghost use Rattle.bench.specs.Calls.{JudgeTells, Sized};
+    ghost use Rattle.bench.specs.Drafting.{Searched, SearchRefused};
+    ghost use Rattle.bench.specs.Histories.{Law};
+    ghost use Rattle.fault.specs.declared.BenchFault.TheVariants as faults;
+
+    // Refused by 7 where the work table does not have as many records as the room.
+    fn check_work(&self, work: &[Record]) -> Result<(), BenchFault>
+        ensures { MatchResult result (λ _. length work.now ≡ self.now.room) (λ e. (e ≡ faults.Room) × (length work.now ≡ self.now.room → ⊥)) }
+    {
+        if work.len() != self.room {
+            return Err(BenchFault::Room);
+        }
+        Ok(())
+    }
+
+    // Searches the ranked graph, and writes a slip for what it finds. Refused by 13 where there is no room.
+    fn search(&self, table: &mut [Record], work: &mut [Record]) -> Result<(Verdict, Form), BenchFault>
+        requires sized { Sized self.now.room table.old }
+        requires work_sized { length work.old ≡ self.now.room }
+        ensures { MatchResult result (λ r. Searched (duty_on D.Chart.meaning self.now) (rule_on R.Chart.meaning self.now) self.now.room table.old table.new r.0 r.1) (SearchRefused (duty_on D.Chart.meaning self.now) (rule_on R.Chart.meaning self.now) self.now.room table.old table.new) }
+    {
+        let map = self.map();
+        let found = survey(&map, NO_WORD, work)?;
+        let form = write_slip(&map, found, work, table);
+        Ok((tell(found), form))
+    }
+
+    fn draft(&mut self, table: &mut [Record], work: &mut [Record]) -> Result<Verdict, BenchFault>
+        ensures answer { JudgeTells (duty_on D.Chart.meaning self.old) (rule_on R.Chart.meaning self.old) self.old.room self.old.state table.old work.old self.new.state table.new work.new result }
+        ensures bench { SameBench self.old self.new }
+    {
+        self.check_table(table)?;
+        self.check_work(work)?;
+        self.check_empty()?;
+        let (verdict, form) = self.search(table, work)?;
+        self.state = State::Drafted(form);
+        Ok(verdict)
+    }
+
+    // Searches the ranked graph, writes a slip for what it finds into the first records of the table, and tells the verdict. Refused
+    // by 7 where the table does not have twice as many records as the room, or the work table as many; then by 10 where there is
+    // a slip; then by 13 where more nodes can be reached than there is room for.
+    pub fn judge(&mut self, table: &mut [Record], work: &mut [Record]) -> Result<Verdict, BenchFault>
+        ensures answer { JudgeTells (duty_on D.Chart.meaning self.old) (rule_on R.Chart.meaning self.old) self.old.room self.old.state table.old work.old self.new.state table.new work.new result }
+        ensures bench { SameBench self.old self.new }
+        ensures law { Law D.Chart.meaning R.Chart.meaning self.old table.old self.new table.new (λ a b n. JudgeTells a b n self.old.state table.old work.old self.new.state table.new work.new result) }
+    {
+        self.draft(table, work)
+    }
+}

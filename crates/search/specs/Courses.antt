@@ -1,0 +1,26 @@
+-- A lasso of a graph through a marked node, written into a table.
+use Rattle.std.specs.Prelude.{◌≡◌, ℕ, ◌*◌, ◌<◌, ◌≤◌, ◌++◌, List, drop, length}
+use Rattle.graph.specs.Graphs.{Graph}
+use Rattle.graph.specs.Walks.{Recurring, More}
+use Rattle.graph.specs.Witnesses.{MarkedLasso}
+use Rattle.search.specs.declared.courses.Course.{Course}
+use Rattle.search.specs.declared.records.Record.{Record}
+use Rattle.search.specs.Surveys.{Allowed}
+use Rattle.search.specs.Tables.{node_at, letter_at, measure_at}
+
+-- The first records of the table are a marked lasso with all measures 0, and the others are as they were; a search in n records
+-- has found it.
+pub record Written (g : Graph) (n : ℕ) (was table : List Record) (c : Course) : Type 0 where
+  pub records : List Record
+  pub count : length records ≡ c.count
+  pub fits : c.count ≤ length was
+  pub short : c.count ≤ 2 * n
+  pub changed : table ≡ records ++ drop c.count was
+  pub lasso : MarkedLasso g (node_at records) (letter_at records) c.count c.stem
+  pub measures : (k : ℕ) → k < c.count → measure_at records k ≡ 0
+
+-- Nothing is found: the node is not a reachable marked one on a cycle, or more nodes can be reached than a search in n records
+-- can hold, or the table, of m records, does not have twice as many. Its first half may be changed then: a way to the node is
+-- written before it is known whether one leads back.
+abbrev pub NotWritten : Graph → ℕ → ℕ → ℕ → Type 0
+NotWritten g node n m = Allowed n → Recurring g node → (More g n → ⊥) → 2 * n ≤ m → ⊥
