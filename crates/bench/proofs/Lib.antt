@@ -4,3 +4,4 @@ pub mod Deciding
 pub mod KeepSlips
 pub mod Standing
 pub mod Lasting
+pub mod WorkedExamples
