@@ -1,5 +1,5 @@
 -- The slip that judge writes where a marked node lies on a cycle.
-use Rattle.std.proofs.Common.{◌≡◌, ◌∙◌, ℕ, ◌*◌, ◌<◌, ◌++◌, List, length, drop, ap, refl, subst, sym, arith}
+use Rattle.std.proofs.Common.{◌≡◌, ◌∙◌, ℕ, ◌++◌, List, length, drop, ap, refl, subst, sym, arith}
 use Rattle.bench.specs.Drafting.{Wrote}
 use Rattle.graph.specs.Graphs.{Graph, Bounded}
 use Rattle.graph.specs.Witnesses.{MarkedLasso}

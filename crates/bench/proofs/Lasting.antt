@@ -1,6 +1,5 @@
 -- Every call carries histories on, and what stands passed is true.
-use Rattle.std.proofs.Common.{◌≡◌, ◌∙◌, ℕ, ◌+◌, ◌*◌, ◌≤◌, List, length, take, Ok, Err, Result, ap, refl, subst, sym, arith}
-use Rattle.std.proofs.lemmas.List.{length-take-le}
+use Rattle.std.proofs.Common.{◌≡◌, ◌∙◌, ℕ, ◌≤◌, List, Ok, Err, Result, ap, refl, subst, sym, arith}
 use Rattle.std.specs.Borrow.{Bor}
 use Rattle.std.specs.Prelude.{IfOk, MatchResult}
 use Rattle.bench.specs.Benches.{SameBench, duty_on, rule_on}
@@ -9,7 +8,6 @@ use Rattle.bench.specs.Histories.{HandsOut, History, Law, LedTo, NoPassed, Sound
 use Rattle.bench.specs.Making.{NewBench, NewRefused}
 use Rattle.bench.specs.Slips.{slip_at}
 use Rattle.bench.specs.declared.benches.Bench.{Bench}
-use Rattle.bench.specs.declared.states.Form.{Form}
 use Rattle.bench.specs.declared.states.State.{State}
 use Rattle.bench.specs.declared.states.State.TheVariants.{Empty, Drafted, Passed}
 use Rattle.bench.specs.declared.verdicts.Verdict.{Verdict}
@@ -19,14 +17,10 @@ use Rattle.chart.specs.Fits.{fitted_of_limits}
 use Rattle.chart.specs.Meanings.{fitted_of}
 use Rattle.fault.specs.declared.BenchFault.{BenchFault}
 use Rattle.fault.specs.declared.BenchFault.TheVariants as faults
-use Rattle.fault.specs.declared.SearchFault.TheVariants.{Table, Full}
+use Rattle.fault.specs.declared.SearchFault.TheVariants.{Full}
 use Rattle.rank.specs.Containment.{Charts}
-use Rattle.rank.specs.Ranked.{ranked_graph}
 use Rattle.search.specs.declared.records.Record.{Record}
 use Rattle.slip.specs.Certificates.{Certificate}
-use Rattle.slip.specs.Rules.{Meets}
-use Rattle.slip.specs.Shapes.{Shaped}
-use Rattle.slip.specs.Showing.{Shows}
 use Rattle.slip.proofs.Telling.{meets_shows}
 
 sound_of : (a b : Automaton) → Charts a b → (room : ℕ) → room ≤ 65536 → (s : State) (table : List Record) → Standing a b room s table → Sound a b s table

@@ -1,9 +1,9 @@
 -- What a history makes sure of: the table has its length, the slip fits, and what is passed meets its rules.
-use Rattle.std.proofs.Common.{◌≡◌, ◌∙◌, ℕ, ◌+◌, ◌-◌, ◌*◌, ◌≤◌, ◌++◌, List, drop, length, take, Ok, Err, Result, ⊎_elim, ap, subst, sym, arith}
+use Rattle.std.proofs.Common.{◌≡◌, ℕ, ◌≤◌, List, drop, length, Ok, Err, Result, ⊎_elim, ap, subst, sym, arith}
 use Rattle.std.proofs.Math.Seq.{take-append_seam}
 use Rattle.std.proofs.lemmas.List.{length-append, length-drop}
-use Rattle.bench.specs.Calls.{Formed, Inspected, InspectRefused, InspectTells, Judged, JudgeRefused, JudgeTells, Put, PutRefused, PutTells, Same, Sized}
-use Rattle.bench.specs.Histories.{History, Sound}
+use Rattle.bench.specs.Calls.{Formed, InspectTells, JudgeTells, PutTells, Same, Sized}
+use Rattle.bench.specs.Histories.{History}
 use Rattle.bench.specs.Slips.{Fits, form_of, over, slip_at}
 use Rattle.bench.specs.declared.states.Form.{Form}
 use Rattle.bench.specs.declared.states.State.{State}
@@ -12,8 +12,7 @@ use Rattle.bench.specs.declared.verdicts.Verdict.{Verdict}
 use Rattle.chart.specs.Automata.{Automaton}
 use Rattle.fault.specs.declared.BenchFault.{BenchFault}
 use Rattle.fault.specs.declared.BenchFault.TheVariants as faults
-use Rattle.fault.specs.declared.SearchFault.TheVariants.{Table, Full}
-use Rattle.rank.specs.Containment.{Charts}
+use Rattle.fault.specs.declared.SearchFault.TheVariants.{Full}
 use Rattle.rank.specs.Ranked.{ranked_graph}
 use Rattle.search.specs.declared.records.Record.{Record}
 use Rattle.slip.specs.Certificates.{Certificate}

@@ -11,7 +11,7 @@ use Rattle.bench.specs.declared.verdicts.Verdict.{Verdict}
 use Rattle.chart.specs.Automata.{Automaton}
 use Rattle.fault.specs.declared.BenchFault.{BenchFault}
 use Rattle.fault.specs.declared.BenchFault.TheVariants.{Room, Shape, Occupied, Vacant, Unpassed, Search, Broken}
-use Rattle.fault.specs.declared.SearchFault.TheVariants.{Table, Full}
+use Rattle.fault.specs.declared.SearchFault.TheVariants.{Full}
 use Rattle.graph.specs.Graphs.{Graph}
 use Rattle.graph.specs.Walks.{More}
 use Rattle.rank.specs.Ranked.{ranked_graph}

@@ -14,7 +14,6 @@ use Rattle.rules.specs.declared.KeepRule.TheVariants as keeps
 use Rattle.rules.specs.declared.Kind.{Kind}
 use Rattle.rules.specs.declared.Kind.TheVariants.{Keep, Break}
 use Rattle.rules.specs.declared.Rule.TheVariants as of
-use Rattle.search.specs.declared.records.Record.{Record}
 use Rattle.slip.specs.Certificates.{Certificate}
 use Rattle.slip.specs.Rules.{FirstBreach, Meets}
 

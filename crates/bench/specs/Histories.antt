@@ -1,6 +1,6 @@
 -- Histories of calls, and the law that every call carries on.
 use Rattle.std.specs.Borrow.{Bor}
-use Rattle.std.specs.Prelude.{◌≡◌, ℕ, ◌*◌, List, length, Result}
+use Rattle.std.specs.Prelude.{◌≡◌, ℕ, List, Result}
 use Rattle.bench.specs.Benches.{duty_on, rule_on}
 use Rattle.bench.specs.Calls.{Sized, JudgeTells, PutTells, InspectTells, ReleaseTells}
 use Rattle.bench.specs.Slips.{handed, slip_at}

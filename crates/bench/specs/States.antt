@@ -1,6 +1,5 @@
 -- The number of a state's records and its loop place, where an empty bench has a keep slip of no records.
 use Rattle.std.specs.Prelude.{ℕ}
-use Rattle.bench.specs.declared.states.Form.{Form}
 use Rattle.bench.specs.declared.states.State.{State}
 use Rattle.bench.specs.declared.states.State.TheVariants.{Empty, Drafted, Passed}
 use Rattle.slip.specs.Shapes.{stems}

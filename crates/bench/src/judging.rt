@@ -29,12 +29,7 @@ fn tell(found: Findings) -> Verdict
 }
 
 // Writes a slip for what the search of a graph has found.
-fn write_slip<M: Map>(
-    map: &M,
-    found: Findings,
-    work: &mut [Record],
-    table: &mut [Record],
-) -> Form
+fn write_slip<M: Map>(map: &M, found: Findings, work: &mut [Record], table: &mut [Record]) -> Form
     requires surveyed { Surveyed (M.Map.graph map.now [] 0) work.old found }
     requires sized { length table.old ≡ 2 * length work.old }
     ensures { Wrote (M.Map.graph map.now [] 0) (length work.old) (verdict_of found) table.old table.new result }
@@ -63,7 +58,11 @@ impl<D: Chart, R: Chart> Bench<D, R> {
     }
 
     // Searches the ranked graph, and writes a slip for what it finds. Refused by 13 where there is no room.
-    fn search(&self, table: &mut [Record], work: &mut [Record]) -> Result<(Verdict, Form), BenchFault>
+    fn search(
+        &self,
+        table: &mut [Record],
+        work: &mut [Record],
+    ) -> Result<(Verdict, Form), BenchFault>
         requires sized { Sized self.now.room table.old }
         requires work_sized { length work.old ≡ self.now.room }
         ensures { MatchResult result (λ r. Searched (duty_on D.Chart.meaning self.now) (rule_on R.Chart.meaning self.now) self.now.room table.old table.new r.0 r.1) (SearchRefused (duty_on D.Chart.meaning self.now) (rule_on R.Chart.meaning self.now) self.now.room table.old table.new) }
@@ -89,7 +88,11 @@ impl<D: Chart, R: Chart> Bench<D, R> {
     // Searches the ranked graph, writes a slip for what it finds into the first records of the table, and tells the verdict. Refused
     // by 7 where the table does not have twice as many records as the room, or the work table as many; then by 10 where there is
     // a slip; then by 13 where more nodes can be reached than there is room for.
-    pub fn judge(&mut self, table: &mut [Record], work: &mut [Record]) -> Result<Verdict, BenchFault>
+    pub fn judge(
+        &mut self,
+        table: &mut [Record],
+        work: &mut [Record],
+    ) -> Result<Verdict, BenchFault>
         ensures answer { JudgeTells (duty_on D.Chart.meaning self.old) (rule_on R.Chart.meaning self.old) self.old.room self.old.state table.old work.old self.new.state table.new work.new result }
         ensures bench { SameBench self.old self.new }
         ensures law { Law D.Chart.meaning R.Chart.meaning self.old table.old self.new table.new (λ a b n. JudgeTells a b n self.old.state table.old work.old self.new.state table.new work.new result) }
