@@ -1,5 +1,5 @@
 -- A way from a start to a marked node and a way from the node back to it are a lasso, and each is found where there is one.
-use Rattle.std.proofs.Common.{◌≡◌, ℕ, zero, suc, ◌+◌, ◌-◌, ◌*◌, ◌<◌, ◌≤◌, true, ◌⊎◌, List, [], length, get_or, take, drop, ◌++◌, sym, refl, ap, ◌∙◌, subst, inl, inr, ⊎_elim, arith, length-append, append_assoc}
+use Rattle.std.proofs.Common.{◌≡◌, ℕ, suc, ◌+◌, ◌-◌, ◌*◌, ◌<◌, ◌≤◌, true, List, [], length, get_or, take, drop, ◌++◌, sym, refl, ap, ◌∙◌, subst, ⊎_elim, arith, length-append, append_assoc}
 use Rattle.std.proofs.Math.ListN.{drop_of_length-le}
 use Rattle.std.proofs.Math.Seq.{take-append_seam, drop-append_seam}
 use Rattle.std.proofs.lemmas.Bool.{cases_lt, eqb-true, eq-eqb}
@@ -14,13 +14,14 @@ use Rattle.search.specs.declared.queues.Origin.{Origin}
 use Rattle.search.specs.declared.queues.Origin.TheVariants.{Starts, Node}
 use Rattle.search.specs.declared.records.Record.{Record}
 use Rattle.search.specs.Courses.{Written}
-use Rattle.search.specs.Tables.{blank, node_at, letter_at, measure_at}
+use Rattle.search.specs.Tables.{blank, node_at, letter_at}
 use Rattle.search.specs.Trips.{begins, rooted, Missed}
 use Rattle.search.specs.Ways.{Way, NoWay, WayWritten}
 use Rattle.search.proofs.Tracing.{edge_as}
 
 -- what is reached from where ways begin is reached
-pub reach_of : (g : Graph) (from : Origin) → ((v : ℕ) → begins g from v ≡ true → Reach g v) → (w : ℕ) → Reach (rooted g from) w → Reach g w
+pub reach_of : (g : Graph) (from : Origin) → ((v : ℕ) → begins g from v ≡ true → Reach g v) → (w : ℕ) → Reach (rooted g from) w
+    → Reach g w
 reach_of g from starts w (begin h) = starts w h
 reach_of g from starts w (go {v} r e) = go (reach_of g from starts v r) e
 
@@ -34,13 +35,12 @@ reach_from g w (begin h) = begin h
 reach_from g w (go {v} r e) = go (reach_from g v r) e
 
 -- no way to the node
-module _ (g : Graph) (v n : ℕ) (r : Recurring g v) (few : More g n → ⊥) where
-  unreached : Missed (rooted g Starts) Starts v → Reach g v → ⊥
-  unreached none (begin h) = none.no_start refl h
-  unreached none (go {v = u} q e) = none.no_edge u (reach_from g u q) e
+unreached : (g : Graph) (v : ℕ) → Missed (rooted g Starts) Starts v → Reach g v → ⊥
+unreached g v none (begin h) = none.no_start refl h
+unreached g v none (go {v = u} q e) = none.no_edge u (reach_from g u q) e
 
-  pub no_stem : NoWay (rooted g Starts) Starts v n → ⊥
-  no_stem = ⊎_elim (λ more. few (more_of g Starts n (λ u h. begin h) more)) (λ none. unreached none r.reached)
+pub no_stem : (g : Graph) (v n : ℕ) → Recurring g v → (More g n → ⊥) → NoWay (rooted g Starts) Starts v n → ⊥
+no_stem g v n r few = ⊎_elim (λ more. few (more_of g Starts n (λ u h. begin h) more)) (λ none. unreached g v none r.reached)
 
 -- no way back
 module _ (g : Graph) (v : ℕ) (none : Missed (rooted g (Node v)) (Node v) v) where
@@ -58,7 +58,8 @@ no_turn g v n r few =
 
 -- the two ways joined
 module _ (g : Graph) (v a b : ℕ) (node1 letter1 node2 letter2 node letter : ℕ → ℕ)
-    (stem : Way (rooted g Starts) v a node1 letter1) (turn : Way (rooted g (Node v)) v b node2 letter2) (some : 0 < b) (marked : g.marked v ≡ true)
+    (stem : Way (rooted g Starts) v a node1 letter1) (turn : Way (rooted g (Node v)) v b node2 letter2) (some : 0 < b)
+    (marked : g.marked v ≡ true)
     (front : (k : ℕ) → k < a → (node k ≡ node1 k) × (letter k ≡ letter1 k))
     (back : (k j : ℕ) → a + j ≡ k → j < b → (node k ≡ node2 j) × (letter k ≡ letter2 j)) where
   seam : node a ≡ v
@@ -77,7 +78,8 @@ module _ (g : Graph) (v a b : ℕ) (node1 letter1 node2 letter2 node letter : �
       (λ (more : suc k < a). edge_as g (node1 k) (node k) (letter1 k) (letter k) (node1 (suc k)) (node (suc k))
       (front k h).0 (front k h).1 (front (suc k) more).0 (stem.steps k more))
       (λ (le : a ≤ suc k). let e : suc k ≡ a = omega arith in
-      edge_as g (node1 k) (node k) (letter1 k) (letter k) v (node (suc k)) (front k h).0 (front k h).1 (ap node e ∙ seam) (stem.ends k e))
+      edge_as g (node1 k) (node k) (letter1 k) (letter k) v (node (suc k)) (front k h).0 (front k h).1 (ap node e ∙ seam)
+      (stem.ends k e))
       (cases_lt (suc k) a)
 
   in_turn : (k j : ℕ) → a + j ≡ k → suc j < b → g.edge (node k) (letter k) (node (suc k)) ≡ true
@@ -110,7 +112,8 @@ module _ (g : Graph) (v a b : ℕ) (node1 letter1 node2 letter2 node letter : �
 
 -- and written one behind the other
 module _ (g : Graph) (v n a b : ℕ) (was mid part : List Record) (stem : WayWritten (rooted g Starts) Starts v n was mid a)
-    (turn : WayWritten (rooted g (Node v)) (Node v) v n (take (length mid - a) (drop a mid)) part b) (marked : g.marked v ≡ true) (room : 2 * n ≤ length was) where
+    (turn : WayWritten (rooted g (Node v)) (Node v) v n (take (length mid - a) (drop a mid)) part b)
+    (marked : g.marked v ≡ true) (room : 2 * n ≤ length was) where
   abbrev all : List Record
   all = stem.records ++ turn.records
 
@@ -138,13 +141,15 @@ module _ (g : Graph) (v n a b : ℕ) (was mid part : List Record) (stem : WayWri
       ∙ subst (λ k. drop k (stem.records ++ drop a was) ≡ drop a was) stem.count_is (drop-append_seam stem.records (drop a was))
 
   part_is : part ≡ turn.records ++ drop (a + b) was
-  part_is = turn.changed ∙ ap (λ (xs : List Record). turn.records ++ xs) (ap (drop b) (take_rest mid a ∙ rest_is) ∙ drop-drop b a was)
+  part_is =
+      turn.changed
+      ∙ ap (λ (xs : List Record). turn.records ++ xs) (ap (drop b) (take_rest mid a ∙ rest_is) ∙ drop-drop b a was)
 
   nothing : drop (length mid - a) (drop a mid) ≡ []
   nothing = drop_of_length-le (drop a mid) (omega (arith, length-drop a mid))
 
-  pub written : Written g n was (take a mid ++ (part ++ drop (length mid - a) (drop a mid))) (record { count = a + b; stem = a })
-  written =
+  made : Written g n was (take a mid ++ (part ++ drop (length mid - a) (drop a mid))) (record { count = a + b; stem = a })
+  made =
       record {
         records = all;
         count = length-append stem.records turn.records ∙ omega (arith, stem.count_is, turn.count_is);
@@ -152,16 +157,23 @@ module _ (g : Graph) (v n a b : ℕ) (was mid part : List Record) (stem : WayWri
         short = omega (arith, stem.short, turn.short);
         changed =
             ap (λ (xs : List Record). xs ++ (part ++ drop (length mid - a) (drop a mid))) front_is
-            ∙ (ap (λ (ys : List Record). stem.records ++ ys) (ap (λ (zs : List Record). part ++ zs) nothing ∙ (append-nil part ∙ part_is))
+            ∙ (ap (λ (ys : List Record). stem.records ++ ys)
+            (ap (λ (zs : List Record). part ++ zs) nothing ∙ (append-nil part ∙ part_is))
             ∙ sym (append_assoc stem.records turn.records (drop (a + b) was)));
         lasso =
-            joined g v a b (node_at stem.records) (letter_at stem.records) (node_at turn.records) (letter_at turn.records) (node_at all) (letter_at all)
+            joined g v a b (node_at stem.records) (letter_at stem.records) (node_at turn.records) (letter_at turn.records)
+            (node_at all) (letter_at all)
             stem.way turn.way some marked
             (λ k h. (ap (λ r. r.node) (front_at k h), ap (λ r. r.letter) (front_at k h)))
             (λ k j e h. (ap (λ r. r.node) (back_at k j e h), ap (λ r. r.letter) (back_at k j e h)));
         measures =
             λ k h. ⊎_elim
             (λ (low : k < a). ap (λ r. r.measure) (front_at k low) ∙ stem.measures k low)
-            (λ (high : a ≤ k). ap (λ r. r.measure) (back_at k (k - a) (omega arith) (omega arith)) ∙ turn.measures (k - a) (omega arith))
+            (λ (high : a ≤ k). ap (λ r. r.measure) (back_at k (k - a) (omega arith) (omega arith))
+            ∙ turn.measures (k - a) (omega arith))
             (cases_lt k a);
       }
+
+  pub written : (c : Course) → c ≡ record { count = a + b; stem = a }
+      → Written g n was (take a mid ++ (part ++ drop (length mid - a) (drop a mid))) c
+  written c is = subst (λ x. Written g n was (take a mid ++ (part ++ drop (length mid - a) (drop a mid))) x) (sym is) made

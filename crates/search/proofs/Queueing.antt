@@ -1,5 +1,5 @@
 -- The queue of a search grows.
-use Rattle.std.proofs.Common.{◌≡◌, ℕ, suc, ◌+◌, ◌<◌, ◌≤◌, ◌≢◌, Bool, true, ◌⊎◌, List, length, set, Some, None, Option, Ok, Err, Result, MatchResult, sym, refl, ap, ◌∙◌, subst, inl, inr, ⊎_elim, arith}
+use Rattle.std.proofs.Common.{◌≡◌, ℕ, suc, ◌+◌, ◌<◌, ◌≤◌, ◌≢◌, Bool, true, ◌⊎◌, List, length, set, Some, Option, Ok, Err, Result, MatchResult, sym, refl, ap, ◌∙◌, subst, inl, inr, ⊎_elim, arith}
 use Rattle.std.proofs.lemmas.Bool.{cases_lt}
 use Rattle.graph.specs.Graphs.{Graph}
 use Rattle.graph.specs.Walks.{Edge, Reach, begin, go, More}
@@ -8,7 +8,7 @@ use Rattle.search.specs.Rising.{Passed, Next}
 use Rattle.search.specs.Tables.{node_at, letter_at, measure_at}
 use Rattle.search.specs.Trees.{At, Used, Held, put}
 use Rattle.search.specs.declared.queues.Origin.{Origin}
-use Rattle.search.specs.declared.queues.Origin.TheVariants.{Starts, Node}
+use Rattle.search.specs.declared.queues.Origin.TheVariants.{Node}
 use Rattle.search.specs.declared.queues.Stop.{Stop}
 use Rattle.search.specs.declared.queues.Stop.TheVariants.{Full, Found}
 use Rattle.search.specs.Trips.{Link, Queued, IsQueued, Leads, Added, NoRoom, Halted, Longer, Taken, Begun, Missed}
@@ -23,9 +23,11 @@ pub link_more : (g : Graph) (node node' : ℕ → ℕ) (s t l m v : ℕ) → s �
 link_more g node node' s t l m v le same =
     ⊎_elim (λ root. inl root) (λ (p, is, lt, e). inr (p, is, omega arith, subst (λ x. g.edge x l v ≡ true) (sym (same p lt)) e))
 
-pub link_as : (g : Graph) (node : ℕ → ℕ) (s l l' m m' v v' : ℕ) → l' ≡ l → m' ≡ m → v' ≡ v → Link g node s l m v → Link g node s l' m' v'
+pub link_as : (g : Graph) (node : ℕ → ℕ) (s l l' m m' v v' : ℕ) → l' ≡ l → m' ≡ m → v' ≡ v → Link g node s l m v
+    → Link g node s l' m' v'
 link_as g node s l l' m m' v v' el em ev link =
-    subst (λ x. Link g node s x m' v') (sym el) (subst (λ x. Link g node s l x v') (sym em) (subst (λ x. Link g node s l m x) (sym ev) link))
+    subst (λ x. Link g node s x m' v') (sym el) (subst (λ x. Link g node s l x v') (sym em)
+    (subst (λ x. Link g node s l m x) (sym ev) link))
 
 -- a new node at the end of the queue
 module _ (g : Graph) (s l m v : ℕ) (node letter up : ℕ → ℕ) (q : Queued g s node letter up) (new : At node 0 s v → ⊥)
@@ -55,7 +57,8 @@ module _ (g : Graph) (s l m v : ℕ) (node letter up : ℕ → ℕ) (q : Queued 
             (link_more g node (put node s v) s s l m v (omega arith) (λ p lt. put_other node s v p (λ e. omega arith)) link))
             (λ ne h. link_as g (put node s v) i (letter i) (put letter s l i) (up i) (put up s m i) (node i) (put node s v i)
             (put_other letter s l i ne) (put_other up s m i ne) (put_other node s v i ne)
-            (link_more g node (put node s v) i i (letter i) (up i) (node i) (omega arith) (λ p lt. put_other node s v p (λ e. omega arith))
+            (link_more g node (put node s v) i i (letter i) (up i) (node i) (omega arith)
+            (λ p lt. put_other node s v p (λ e. omega arith))
             (q.back i (omega arith))));
       }
 
@@ -113,7 +116,8 @@ queue_crowded g s v work q full new reached =
     crowded g s (length work) (length work) v (node_at work) held full reached (λ i u e. new (i, omega arith, inside i u, e))
 
 -- so the search halts
-pub no_room : (g : Graph) (from : Origin) (to : ℕ) (r : Record) (s : ℕ) (was : List Record) (t : ℕ) (work : List Record) (stop : Stop)
+pub no_room : (g : Graph) (from : Origin) (to : ℕ) (r : Record) (s : ℕ) (was : List Record) (t : ℕ) (work : List Record)
+    (stop : Stop)
     → IsQueued g s was → Reach g r.node → length work ≡ length was → NoRoom r s was stop → Halted g from to t work stop
 no_room g from to r s was t work Full q reached len (full, new) =
     subst (λ n. More g n) (sym len) (queue_crowded g s r.node was q full new reached)
@@ -130,7 +134,8 @@ pub at_longer : (s : ℕ) (was : List Record) (t : ℕ) (work : List Record) (v 
 at_longer s was t work v longer (i, lo, hi, is) = (i, lo, omega (arith, longer.more), longer.same i hi ∙ is)
 
 -- one after the other
-pub taken_join : (g : Graph) (to : ℕ) (P Q R : ℕ → Type 0) (s : ℕ) (was : List Record) (t : ℕ) (mid : List Record) (u : ℕ) (work : List Record)
+pub taken_join : (g : Graph) (to : ℕ) (P Q R : ℕ → Type 0) (s : ℕ) (was : List Record) (t : ℕ) (mid : List Record) (u : ℕ)
+    (work : List Record)
     → Taken g to P s was t mid → Taken g to Q t mid u work → ((v : ℕ) → R v → P v ⊎ Q v) → Taken g to R s was u work
 taken_join g to P Q R s was t mid u work p q split =
     record {
@@ -161,9 +166,14 @@ pub taken_next : (g : Graph) (to : ℕ) (P : ℕ → Bool) (by : Record) (from a
     → Taken g to (λ v. (P v ≡ true) × Passed after v) s was u work
 taken_next g to P by from after next s was t mid u work leads (is, up_to, more, last) other taken added =
     let (reached, link) = leads_more g P by s was t mid leads taken.longer next is in
-    let one = grown g (record { node = next; letter = by.letter; measure = by.measure }) t mid u work taken.queued reached link added in
+    let r : Record = record { node = next; letter = by.letter; measure = by.measure } in
+    let one = grown g r t mid u work taken.queued reached link added in
     taken_join g to (λ v. (P v ≡ true) × Passed from v) (λ v. v ≡ next) (λ v. (P v ≡ true) × Passed after v) s was t mid u work taken
-    (record { queued = one.queued; longer = one.longer; all = λ v e. (λ same. other (sym e ∙ same), subst (λ x. At (node_at work) 0 u x) (sym e) one.has) })
+    (record {
+      queued = one.queued;
+      longer = one.longer;
+      all = λ v e. (λ same. other (sym e ∙ same), subst (λ x. At (node_at work) 0 u x) (sym e) one.has);
+    })
     (λ v (p, passed). ⊎_elim (λ before. inl (p, before)) (λ e. inr e) (up_to v p passed))
 
 pub taken_all : (g : Graph) (to : ℕ) (P Q : ℕ → Type 0) (s : ℕ) (was : List Record) (t : ℕ) (work : List Record)
@@ -221,7 +231,8 @@ queued_none g s work empty =
 abbrev pub Closed : Graph → ℕ → ℕ → ℕ → List Record → Type 0
 Closed g to place s work = (i w : ℕ) → i < place → Edge g (node_at work i) w → (w ≢ to) × At (node_at work) 0 s w
 
-pub closed_more : (g : Graph) (to place s : ℕ) (was : List Record) (t : ℕ) (work : List Record) → place < s → Closed g to place s was
+pub closed_more : (g : Graph) (to place s : ℕ) (was : List Record) (t : ℕ) (work : List Record) → place < s
+    → Closed g to place s was
     → Taken g to (Edge g (node_at was place)) s was t work → Closed g to (place + 1) t work
 closed_more g to place s was t work lt closed taken i w h e =
     let edge : Edge g (node_at was i) w = subst (λ x. Edge g x w) (taken.longer.same i (omega arith)) e in
@@ -231,7 +242,8 @@ closed_more g to place s was t work lt closed taken i w h e =
     (cases_lt i place)
 
 -- at the end of the queue it has all that can be reached
-module _ (g : Graph) (from : Origin) (to s : ℕ) (work : List Record) (begun : Begun g from to s work) (closed : Closed g to s s work) where
+module _ (g : Graph) (from : Origin) (to s : ℕ) (work : List Record) (begun : Begun g from to s work)
+    (closed : Closed g to s s work) where
   all_met : (v : ℕ) → Reach g v → At (node_at work) 0 s v
   all_met v (begin h) = begun.starts v h
   all_met w (go {v} r e) =

@@ -1,12 +1,14 @@
 -- The way to a node is written backwards, and then turned round.
-use Rattle.std.proofs.Common.{◌≡◌, ℕ, zero, suc, ◌+◌, ◌-◌, ◌<◌, ◌≤◌, true, ◌⊎◌, List, length, get_or, set, take, drop, ◌++◌, reverse, sym, refl, ap, ◌∙◌, subst, inl, inr, ⊎_elim, arith}
+use Rattle.std.proofs.Common.{◌≡◌, ℕ, zero, suc, ◌+◌, ◌-◌, ◌<◌, ◌≤◌, true, List, length, get_or, set, take, drop, ◌++◌, reverse, sym, refl, ap, ◌∙◌, subst, ⊎_elim, arith}
 use Rattle.std.proofs.lemmas.Bool.{cases_lt}
 use Rattle.std.proofs.lemmas.List.{get_or-set_same, get_or-set_other, drop-set-lt, drop-drop, get_or-reverse, length-reverse, get_or-take, length-take-le}
 use Rattle.graph.specs.Graphs.{Graph}
 use Rattle.search.specs.declared.records.Record.{Record}
 use Rattle.search.specs.Tables.{blank, node_at, letter_at, measure_at}
-use Rattle.search.specs.Trips.{Link, IsQueued}
-use Rattle.search.specs.Ways.{behind, Traced, Way}
+use Rattle.search.specs.declared.queues.Origin.{Origin}
+use Rattle.search.specs.Trips.{Link, IsQueued, Leaves}
+use Rattle.search.specs.Ways.{behind, Traced, Way, WayWritten}
+use Rattle.graph.specs.Walks.{Reach}
 use Rattle.search.proofs.Queueing.{link_more, link_as}
 
 -- the edges behind a record are written, and it leads to the node of the last one
@@ -22,7 +24,8 @@ behind_same to f f' n same (suc k) h = same k (omega arith)
 
 pub edge_as : (g : Graph) (v v' l l' w w' : ℕ) → v' ≡ v → l' ≡ l → w' ≡ w → g.edge v l w ≡ true → g.edge v' l' w' ≡ true
 edge_as g v v' l l' w w' ev el ew e =
-    subst (λ x. g.edge x l' w' ≡ true) (sym ev) (subst (λ x. g.edge v x w' ≡ true) (sym el) (subst (λ x. g.edge v l x ≡ true) (sym ew) e))
+    subst (λ x. g.edge x l' w' ≡ true) (sym ev) (subst (λ x. g.edge v x w' ≡ true) (sym el)
+    (subst (λ x. g.edge v l x ≡ true) (sym ew) e))
 
 drop_suc : (n : ℕ) (xs ys : List Record) → drop n xs ≡ drop n ys → drop (suc n) xs ≡ drop (suc n) ys
 drop_suc n xs ys e =
@@ -35,7 +38,8 @@ tracing_begin g to r s work table link =
     record { link = link; steps = λ k h. absurd (omega arith); measures = λ k h. absurd (omega arith); rest = refl }
 
 -- one edge more is written
-module _ (g : Graph) (to count p : ℕ) (r : Record) (s : ℕ) (work was table : List Record) (q : IsQueued g s work) (is : r.measure ≡ suc p)
+module _ (g : Graph) (to count p : ℕ) (r : Record) (s : ℕ) (work was table : List Record) (q : IsQueued g s work)
+    (is : r.measure ≡ suc p)
     (inside : p < s) (room : count < length table) (t : Tracing g to count r s work was table) where
   abbrev written : Record
   written = record { node = node_at work p; letter = r.letter; measure = 0 }
@@ -52,40 +56,48 @@ module _ (g : Graph) (to count p : ℕ) (r : Record) (s : ℕ) (work was table :
   edge_here : g.edge (node_at work p) r.letter (behind to (node_at table) count) ≡ true
   edge_here =
       ⊎_elim (λ (root, start). absurd (omega arith))
-      (λ (p', is', lt, e). let same : p' ≡ p = omega arith in subst (λ x. g.edge (node_at work x) r.letter (behind to (node_at table) count) ≡ true) same e)
+      (λ (p', is', lt, e). let same : p' ≡ p = omega arith in
+      subst (λ x. g.edge (node_at work x) r.letter (behind to (node_at table) count) ≡ true) same e)
       t.link
 
   tracing_suc : Tracing g to (suc count) (get_or work p blank) s work was (set table count written)
   tracing_suc =
       record {
         link =
-            link_as g (node_at work) s (letter_at work p) (letter_at work p) (measure_at work p) (measure_at work p) (node_at work p) (node_at (set table count written) count)
+            link_as g (node_at work) s (letter_at work p) (letter_at work p) (measure_at work p) (measure_at work p)
+            (node_at work p) (node_at (set table count written) count)
             refl refl (ap (λ x. x.node) here)
-            (link_more g (node_at work) (node_at work) p s (letter_at work p) (measure_at work p) (node_at work p) (omega arith) (λ i h. refl) (q.back p inside));
+            (link_more g (node_at work) (node_at work) p s (letter_at work p) (measure_at work p) (node_at work p) (omega arith)
+            (λ i h. refl) (q.back p inside));
         steps =
             λ k h. ⊎_elim
-            (λ (less : k < count). edge_as g (node_at table k) (node_at (set table count written) k) (letter_at table k) (letter_at (set table count written) k)
+            (λ (less : k < count). edge_as g (node_at table k) (node_at (set table count written) k) (letter_at table k)
+            (letter_at (set table count written) k)
             (behind to (node_at table) k) (behind to (node_at (set table count written)) k)
             (ap (λ x. x.node) (low k less)) (ap (λ x. x.letter) (low k less)) (behind_low k (omega arith)) (t.steps k less))
             (λ (le : count ≤ k). let e : count ≡ k = omega arith in
-            subst (λ k. g.edge (node_at (set table count written) k) (letter_at (set table count written) k) (behind to (node_at (set table count written)) k) ≡ true) e
-            (edge_as g (node_at work p) (node_at (set table count written) count) r.letter (letter_at (set table count written) count)
+            subst (λ k. g.edge (node_at (set table count written) k) (letter_at (set table count written) k)
+            (behind to (node_at (set table count written)) k) ≡ true) e
+            (edge_as g (node_at work p) (node_at (set table count written) count) r.letter
+            (letter_at (set table count written) count)
             (behind to (node_at table) count) (behind to (node_at (set table count written)) count)
             (ap (λ x. x.node) here) (ap (λ x. x.letter) here) (behind_low count (omega arith)) edge_here))
             (cases_lt k count);
         measures =
             λ k h. ⊎_elim
             (λ (less : k < count). ap (λ x. x.measure) (low k less) ∙ t.measures k less)
-            (λ (le : count ≤ k). let e : count ≡ k = omega arith in subst (λ k. measure_at (set table count written) k ≡ 0) e (ap (λ x. x.measure) here))
+            (λ (le : count ≤ k). let e : count ≡ k = omega arith in subst (λ k. measure_at (set table count written) k ≡ 0) e
+            (ap (λ x. x.measure) here))
             (cases_lt k count);
         rest =
             drop-set-lt (suc count) table count written (omega arith) ∙ drop_suc count table was t.rest;
       }
 
-  pub tracing_more : Tracing g to (count + 1) (get_or work p blank) s work was (set table count written)
-  tracing_more =
+  pub tracing_more : (w : Record) → w ≡ written → Tracing g to (count + 1) (get_or work p blank) s work was (set table count w)
+  tracing_more w same =
       let e : suc count ≡ count + 1 = omega arith in
-      subst (λ n. Tracing g to n (get_or work p blank) s work was (set table count written)) e tracing_suc
+      subst (λ x. Tracing g to (count + 1) (get_or work p blank) s work was (set table count x)) (sym same)
+      (subst (λ n. Tracing g to n (get_or work p blank) s work was (set table count written)) e tracing_suc)
 
 -- it ends at a start
 pub traced : (g : Graph) (to count : ℕ) (r : Record) (s : ℕ) (work was table : List Record) → r.measure ≡ 0
@@ -99,7 +111,8 @@ traced g to count r s work was table root t =
     }
 
 -- the records turned round
-module _ (g : Graph) (to count : ℕ) (was table : List Record) (inside : count ≤ length table) (t : Traced g to count was table) where
+module _ (g : Graph) (to count : ℕ) (was table : List Record) (inside : count ≤ length table)
+    (t : Traced g to count was table) where
   abbrev pub turned : List Record
   turned = reverse (take count table)
 
@@ -119,30 +132,42 @@ module _ (g : Graph) (to count : ℕ) (was table : List Record) (inside : count 
   turned_way =
       record {
         starts = (
-            λ some. let e : suc (count - 1) ≡ count = omega arith in
-                subst (λ v. g.start v ≡ true) (sym (ap (λ x. x.node) (turned_at 0 (count - 1) (omega arith))))
-                (subst (λ n. g.start (behind to (node_at table) n) ≡ true) (sym e) t.starts),
-            λ none. subst (λ n. g.start (behind to (node_at table) n) ≡ true) none t.starts,
+          λ some. let e : suc (count - 1) ≡ count = omega arith in
+              subst (λ v. g.start v ≡ true) (sym (ap (λ x. x.node) (turned_at 0 (count - 1) (omega arith))))
+              (subst (λ n. g.start (behind to (node_at table) n) ≡ true) (sym e) t.starts),
+          λ none. subst (λ n. g.start (behind to (node_at table) n) ≡ true) none t.starts,
         );
         steps =
             λ i h. let k = count - suc (suc i) in
-            edge_as g (node_at table (suc k)) (node_at turned i) (letter_at table (suc k)) (letter_at turned i) (node_at table k) (node_at turned (suc i))
+            edge_as g (node_at table (suc k)) (node_at turned i) (letter_at table (suc k)) (letter_at turned i)
+            (node_at table k) (node_at turned (suc i))
             (ap (λ x. x.node) (turned_at i (suc k) (omega arith))) (ap (λ x. x.letter) (turned_at i (suc k) (omega arith)))
             (ap (λ x. x.node) (turned_at (suc i) k (omega arith))) (t.steps (suc k) (omega arith));
         ends =
             λ i h. edge_as g (node_at table 0) (node_at turned i) (letter_at table 0) (letter_at turned i) to to
-            (ap (λ x. x.node) (turned_at i 0 (omega arith))) (ap (λ x. x.letter) (turned_at i 0 (omega arith))) refl (t.steps 0 (omega arith));
+            (ap (λ x. x.node) (turned_at i 0 (omega arith))) (ap (λ x. x.letter) (turned_at i 0 (omega arith))) refl
+            (t.steps 0 (omega arith));
       }
 
--- what leads to a node stands before it
-link_below : (g : Graph) (node : ℕ → ℕ) (s l m v : ℕ) → Link g node s l m v → m ≤ s
-link_below g node s l m v = ⊎_elim (λ (root, start). omega arith) (λ (p, is, lt, e). omega arith)
-
-pub falls : (g : Graph) (s : ℕ) (work : List Record) → IsQueued g s work → (i : ℕ) → i < s → measure_at work i ≤ i
-falls g s work q i h = link_below g (node_at work) i (letter_at work i) (measure_at work i) (node_at work i) (q.back i h)
-
-pub last_below : (g : Graph) (r : Record) (to s : ℕ) (work : List Record) → Link g (node_at work) s r.letter r.measure to → r.measure ≤ s
-last_below g r to s work = link_below g (node_at work) s r.letter r.measure to
-
+-- a way with an edge left has some edge written
 pub some_left : (m n : ℕ) → (0 < m → 0 < n) → n ≡ 0 → m ≡ 0
-some_left m n some none = ⊎_elim (λ (more : 0 < m). let less = some more in absurd (omega arith)) (λ (le : m ≤ 0). omega arith) (cases_lt 0 m)
+some_left m n some none =
+    ⊎_elim (λ (more : 0 < m). let less = some more in absurd (omega arith)) (λ (le : m ≤ 0). omega arith) (cases_lt 0 m)
+
+-- and so a way is written
+pub way_written : (g : Graph) (from : Origin) (to n count : ℕ) (was mid table : List Record) → Traced g to count was mid
+    → table ≡ reverse (take count mid) ++ drop count mid → Reach g to → Leaves from count → count ≤ n → n ≤ length was
+    → length mid ≡ length was
+    → WayWritten g from to n was table count
+way_written g from to n count was mid table traced is reached leaves short room len =
+    let inside : count ≤ length mid = omega arith in
+    record {
+      records = reverse (take count mid);
+      count_is = length-reverse (take count mid) ∙ length-take-le count mid inside;
+      short = short;
+      changed = is ∙ ap (λ (ys : List Record). reverse (take count mid) ++ ys) traced.rest;
+      way = turned_way g to count was mid inside traced;
+      measures = turned_measures g to count was mid inside traced;
+      reached = reached;
+      leaves = leaves;
+    }

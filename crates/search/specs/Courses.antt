@@ -19,8 +19,8 @@ pub record Written (g : Graph) (n : ℕ) (was table : List Record) (c : Course) 
   pub lasso : MarkedLasso g (node_at records) (letter_at records) c.count c.stem
   pub measures : (k : ℕ) → k < c.count → measure_at records k ≡ 0
 
--- Nothing is found: the node is not a reachable marked one on a cycle, or more nodes can be reached than a search in n records
--- can hold, or the table, of m records, does not have twice as many. Its first half may be changed then: a way to the node is
--- written before it is known whether one leads back.
+-- No lasso is written: the node is not a reachable marked one on a cycle, or the work table has no record or more than 65,536, or
+-- more nodes can be reached than its n records can hold, or the table, of m records, does not have twice as many. The table may
+-- have changed then, since a way to the node is written before one back is looked for.
 abbrev pub NotWritten : Graph → ℕ → ℕ → ℕ → Type 0
 NotWritten g node n m = Allowed n → Recurring g node → (More g n → ⊥) → 2 * n ≤ m → ⊥

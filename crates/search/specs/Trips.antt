@@ -71,7 +71,8 @@ pub record Taken (g : Graph) (to : ℕ) (P : ℕ → Type 0) (s : ℕ) (was : Li
 -- more nodes can be reached than there are records, or the node is found, and the record would lead to it
 abbrev pub Halted : Graph → Origin → ℕ → ℕ → List Record → Stop → Type 0
 Halted g from to s work Full = More g (length work)
-Halted g from to s work (Found r) = IsQueued g s work × Link g (node_at work) s r.letter r.measure to × Reach g to × Leaves from r.measure
+Halted g from to s work (Found r) =
+    IsQueued g s work × Link g (node_at work) s r.letter r.measure to × Reach g to × Leaves from r.measure
 
 -- the queue has the nodes where ways begin, and the one that is looked for is none of the starts, if these are meant
 pub record Begun (g : Graph) (from : Origin) (to s : ℕ) (work : List Record) : Type 0 where

@@ -1,7 +1,9 @@
-// Writing a lasso through a node into a table.
-ghost use Rattle.std.specs.Prelude.{◌≡◌, ℕ, ◌≤◌, ◌<◌, length, MatchOption};
+// Writing a lasso through a node into a table: a way from a start to the node, and one from the node back to it.
+ghost use Rattle.std.specs.Prelude.{◌≡◌, ℕ, ◌+◌, ◌*◌, ◌^◌, ◌≤◌, ◌<◌, ◌++◌, true, length, take, drop, reverse, Decides, MatchOption};
 ghost use Rattle.graph.specs.Graphs.{Graph};
 ghost use Rattle.search.specs.Courses.{Written, NotWritten};
+ghost use Rattle.search.specs.Graphs.{graph_of};
+ghost use Rattle.search.specs.Surveys.{Allowed};
 ghost use Rattle.search.specs.Tables.{node_at, measure_at};
 ghost use Rattle.search.specs.Trips.{graph_for, IsQueued, Link};
 ghost use Rattle.search.specs.Ways.{Traced, NoWay, WayWritten};
@@ -20,8 +22,33 @@ pub struct Course {
     pub stem: usize,
 }
 
+impl Course {
+    fn new(stem: usize, cycle: usize) -> Course
+        requires { stem + cycle < 2 ^ 64 }
+        ensures { result ≡ record { count = stem + cycle; stem = stem } }
+    {
+        Course {
+            count: stem + cycle,
+            stem,
+        }
+    }
+}
+
 impl<'w> Queue<'w> {
-    // Writes the way to a node into the first records of a table, its last edge first, and counts them.
+    // The node at a place, with the letter by which a way goes on from it.
+    fn step(&self, place: usize, letter: u8) -> Record
+        requires { place < length self.now.work.now }
+        ensures { result ≡ record { node = node_at self.now.work.now place; letter = letter; measure = 0 } }
+    {
+        Record {
+            node: self.work[place].node,
+            letter,
+            measure: 0,
+        }
+    }
+
+    // Writes the way to a node into the first records of a table, its last edge first, and counts them. The record that the node
+    // would have in the queue is handed in.
     fn trace(&self, last: Record, table: &mut [Record]) -> usize
         requires falls { (i : ℕ) → i < self.now.size → measure_at self.now.work.now i ≤ i }
         requires last { last.measure ≤ self.now.size }
@@ -33,17 +60,20 @@ impl<'w> Queue<'w> {
         let mut record = last;
         let mut count = 0;
         while let Some(place) = record.before() {
-            let letter = record.letter;
+            table[count] = self.step(place, record.letter);
             record = self.work[place];
-            table[count] = Record {
-                node: record.node,
-                letter,
-                measure: 0,
-            };
             count += 1;
         }
         count
     }
+}
+
+// Turns the first records of a table round.
+fn turn_round(table: &mut [Record], count: usize)
+    requires { count ≤ length table.old }
+    ensures { table.new ≡ reverse (take count table.old) ++ drop count table.old }
+{
+    table[..count].reverse();
 }
 
 // Writes a way into the first records of a table, and counts them.
@@ -57,25 +87,48 @@ fn write_way<M: Map>(trip: &Trip<'_, M>, work: &mut [Record], table: &mut [Recor
         return None;
     };
     let count = queue.trace(last, table);
-    table[..count].reverse();
+    turn_round(table, count);
     Some(count)
 }
 
-// Writes a lasso through the node into the first records of a table, if the node is a reachable marked one on a cycle and there is
-// room: the work table has as many records as nodes can be reached, and the table has twice as many. Each half, from a start to the
-// node and from the node back to it, is a shortest way.
-pub fn write_lasso<M: Map>(map: &M, word: Word<'_>, node: u64, work: &mut [Record], table: &mut [Record]) -> Option<Course>
+// Is the node marked, and is there room to look for a lasso and to write it?
+fn is_ready<M: Map>(
+    graph: &ImplicitGraph<'_, M>,
+    node: u64,
+    work: &[Record],
+    table: &[Record],
+) -> bool
+    ensures { Decides result (((graph_of M.Map.graph graph.now).marked node ≡ true) × Allowed (length work.now) × (2 * length work.now ≤ length table.now)) }
+{
+    graph.is_marked(node) && check_table(work).is_ok() && work.len() <= table.len() / 2
+}
+
+// Writes a lasso through a node into the first records of a table, each half found breadth first, if the node is a marked one that can
+// be reached and lies on a cycle, the work table has room for each node that can be reached, and the table for twice as many. An edge
+// is asked for once in each half. What the work table holds afterwards is no answer.
+pub fn write_lasso<M: Map>(
+    map: &M,
+    word: Word<'_>,
+    node: u64,
+    work: &mut [Record],
+    table: &mut [Record],
+) -> Option<Course>
     ensures { MatchOption result (NotWritten (M.Map.graph map.now word.entry.elements.now word.entry.stem) node (length work.old) (length table.old)) (Written (M.Map.graph map.now word.entry.elements.now word.entry.stem) (length work.old) table.old table.new) }
 {
-    check_table(work).ok()?;
     let graph = ImplicitGraph { map, word };
-    if table.len() / 2 < work.len() || !graph.is_marked(node) {
+    if !is_ready(&graph, node, work, table) {
         return None;
     }
-    let stem = write_way(&Trip { graph, from: Origin::Starts, to: node }, work, table)?;
-    let turn = write_way(&Trip { graph, from: Origin::Node(node), to: node }, work, &mut table[stem..])?;
-    Some(Course {
-        count: stem + turn,
-        stem,
-    })
+    let there = Trip {
+        graph,
+        from: Origin::Starts,
+        to: node,
+    };
+    let back = Trip {
+        from: Origin::Node(node),
+        ..there
+    };
+    let stem = write_way(&there, work, table)?;
+    let cycle = write_way(&back, work, &mut table[stem..])?;
+    Some(Course::new(stem, cycle))
 }

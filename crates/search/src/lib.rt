@@ -1,5 +1,6 @@
 // One search for every map. It collects the reachable nodes in a table that the caller lends, by Tarjan's strongly
-// connected components: the stack grows from the table's front, finished components from its back.
+// connected components: the stack grows from the table's front, finished components from its back. A lasso through a marked
+// node is looked for breadth first, and written into a second table.
 #![tactic(auto)]
 
 mod courses;

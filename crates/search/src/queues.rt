@@ -1,4 +1,4 @@
-// The search for a way to a node, breadth first: the nodes that were met stand in a queue, each with the way on which it was met.
+// The search for a way to a node, breadth first: the nodes that were met stand in a queue, in the order in which they were met.
 ghost use Rattle.std.specs.Prelude.{◌≡◌, ◌≤◌, ◌<◌, true, length, MatchOption, MatchResult};
 ghost use Rattle.graph.specs.Walks.{Edge};
 ghost use Rattle.search.specs.Changes.{SameTable};
@@ -36,8 +36,8 @@ pub(crate) enum Stop {
     Found(Record),
 }
 
-// The nodes that were met, each once. A record has the letter by which its node was met, and its measure is one more than the
-// place of the node from which that edge leads, or 0 where ways begin.
+// The nodes that were met, each once. A record has the letter of the edge on which its node was met, and its measure is one more
+// than the place of the node from which that edge leads, or 0 where ways begin.
 #[derive(Drop)]
 pub(crate) struct Queue<'w> {
     pub(crate) work: &'w mut [Record],
@@ -78,13 +78,14 @@ impl<'w> Queue<'w> {
         Ok(())
     }
 
-    // Adds each of these nodes, with the letter and the measure of a record, until one is the node that is looked for.
-    fn take<M: Map>(&mut self, trip: &Trip<'_, M>, nodes: Nodes, by: Record) -> Result<(), Stop>
+    // Adds each of these nodes, with the letter and the measure of `by`, until one is the node that is looked for: that one is never
+    // added, but where ways begin at it.
+    fn add_all<M: Map>(&mut self, trip: &Trip<'_, M>, nodes: Nodes, by: Record) -> Result<(), Stop>
         requires queued { IsQueued (graph_for M.Map.graph trip.now) self.old.size self.old.work.now }
         requires leads { Leads (graph_for M.Map.graph trip.now) (among (graph_of M.Map.graph trip.now.graph) nodes) by self.old.size self.old.work.now }
         requires leaves { Leaves trip.now.from by.measure }
         ensures same_table { SameTable self.old.work self.new.work }
-        ensures taken { MatchResult result (λ _. Taken (graph_for M.Map.graph trip.now) trip.now.to (λ v. among (graph_of M.Map.graph trip.now.graph) nodes v ≡ true) self.old.size self.old.work.now self.new.size self.new.work.now) (Halted (graph_for M.Map.graph trip.now) trip.now.from trip.now.to self.new.size self.new.work.now) }
+        ensures added { MatchResult result (λ _. Taken (graph_for M.Map.graph trip.now) trip.now.to (λ v. among (graph_of M.Map.graph trip.now.graph) nodes v ≡ true) self.old.size self.old.work.now self.new.size self.new.work.now) (Halted (graph_for M.Map.graph trip.now) trip.now.from trip.now.to self.new.size self.new.work.now) }
     {
         for node in trip.graph.rising(nodes, 0) {
             let record = Record { node, ..by };
@@ -101,7 +102,7 @@ impl<'w> Queue<'w> {
         requires inside { place < self.old.size }
         requires queued { IsQueued (graph_for M.Map.graph trip.now) self.old.size self.old.work.now }
         ensures same_table { SameTable self.old.work self.new.work }
-        ensures taken { MatchResult result (λ _. Taken (graph_for M.Map.graph trip.now) trip.now.to (Edge (graph_of M.Map.graph trip.now.graph) (node_at self.old.work.now place)) self.old.size self.old.work.now self.new.size self.new.work.now) (Halted (graph_for M.Map.graph trip.now) trip.now.from trip.now.to self.new.size self.new.work.now) }
+        ensures added { MatchResult result (λ _. Taken (graph_for M.Map.graph trip.now) trip.now.to (Edge (graph_of M.Map.graph trip.now.graph) (node_at self.old.work.now place)) self.old.size self.old.work.now self.new.size self.new.work.now) (Halted (graph_for M.Map.graph trip.now) trip.now.from trip.now.to self.new.size self.new.work.now) }
     {
         let node = self.work[place].node;
         for letter in 0..trip.graph.letters() {
@@ -110,7 +111,7 @@ impl<'w> Queue<'w> {
                 letter,
                 measure: place as u32 + 1,
             };
-            self.take(trip, Nodes::Successors(node, letter), by)?;
+            self.add_all(trip, Nodes::Successors(node, letter), by)?;
         }
         Ok(())
     }
@@ -122,7 +123,7 @@ impl<'w> Queue<'w> {
         ensures begun { MatchResult result (λ _. Begun (graph_for M.Map.graph trip.now) trip.now.from trip.now.to self.new.size self.new.work.now) (Halted (graph_for M.Map.graph trip.now) trip.now.from trip.now.to self.new.size self.new.work.now) }
     {
         match trip.from {
-            Origin::Starts => self.take(trip, Nodes::Starts, Record::default()),
+            Origin::Starts => self.add_all(trip, Nodes::Starts, Record::default()),
             Origin::Node(node) => self.add(Record {
                 node,
                 ..Record::default()

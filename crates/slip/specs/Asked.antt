@@ -1,12 +1,12 @@
 -- What the questions of an inspection ask.
-use Rattle.std.specs.Prelude.{◌≡◌, ℕ, ◌+◌, ◌<◌, Bool, true, false, List, length, Some, None, Option}
+use Rattle.std.specs.Prelude.{◌≡◌, ℕ, ◌+◌, ◌<◌, Bool, true, false, List, length, Some, None, Option, slice_index_or}
 use Rattle.graph.specs.Graphs.{Graph}
 use Rattle.rules.specs.Numbered.{rule_kind, rule_number}
 use Rattle.rules.specs.declared.BreakRule.{BreakRule}
 use Rattle.rules.specs.declared.KeepRule.{KeepRule}
 use Rattle.rules.specs.declared.Rule.{Rule}
 use Rattle.search.specs.declared.records.Record.{Record}
-use Rattle.search.specs.Tables.{node_at, measure_at}
+use Rattle.search.specs.Tables.{blank, node_at, measure_at}
 use Rattle.slip.specs.Certificates.{Certificate}
 use Rattle.slip.specs.Rules.{KeepHolds, BreakHolds, Holds}
 use Rattle.slip.specs.declared.inspection.Inspection.{Inspection}
@@ -21,6 +21,10 @@ graph_of graph s = graph s.map.now s.word.elements.now s.word.stem
 abbrev pub among : Graph → Nodes → ℕ → Bool
 among g Starts = g.start
 among g (Successors v letter) = g.edge v letter
+
+-- the record stands at place p
+abbrev pub StandsAt : List Record → ℕ → Record → Type 0
+StandsAt rs p r = (p < length rs) × (slice_index_or rs p blank ≡ r)
 
 -- a measure is below the limit, if there is one
 abbrev pub Within : Option ℕ → ℕ → Type 0

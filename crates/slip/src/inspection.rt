@@ -4,7 +4,7 @@ ghost use Rattle.graph.specs.Least.{Least};
 ghost use Rattle.lasso.specs.Positions.{after};
 ghost use Rattle.rules.specs.Numbered.{keep_number, break_number};
 ghost use Rattle.search.specs.Tables.{node_at};
-ghost use Rattle.slip.specs.Asked.{graph_of, among, Within, Held, limit, MeetsKeep, MeetsBreak, Lowest, LowestAt};
+ghost use Rattle.slip.specs.Asked.{graph_of, among, Within, Held, limit, MeetsKeep, MeetsBreak, Lowest, LowestAt, StandsAt};
 ghost use Rattle.slip.specs.Certificates.{content};
 ghost use Rattle.slip.specs.Rules.{Meets, FirstBreach};
 
@@ -62,8 +62,7 @@ impl<'a, M: Map> Inspection<'a, M> {
     fn is_held(&self, node: u64, limit: Option<u64>) -> bool
         ensures { Decides result (Held self.now.slip.records.now limit node) }
     {
-        self.slip.records.iter().any(|record| record.node == node
-            && is_within(record.measure, limit))
+        self.slip.records.iter().any(|entry| entry.node == node && is_within(entry.measure, limit))
     }
 
     // Is each of these nodes held, with a measure below the limit, if there is one?
@@ -84,11 +83,11 @@ impl<'a, M: Map> Inspection<'a, M> {
     }
 
     // What the measures behind a record's edges are below.
-    fn limit(&self, record: Record) -> u64
-        ensures { result ≡ limit ((graph_of M.Map.graph self.now).marked record.node) record.measure }
+    fn limit(&self, entry: Record) -> u64
+        ensures { result ≡ limit ((graph_of M.Map.graph self.now).marked entry.node) entry.measure }
     {
-        let measure = u64::from(record.measure);
-        if self.map.is_marked(self.word, record.node) {
+        let measure = u64::from(entry.measure);
+        if self.map.is_marked(self.word, entry.node) {
             measure
         } else {
             measure + 1
@@ -108,31 +107,27 @@ impl<'a, M: Map> Inspection<'a, M> {
     }
 
     // Has a record of a keep slip a node, and letter 0?
-    fn meets_keep_node(&self, place: usize) -> bool
-        requires { place < length self.now.slip.records.now }
-        ensures { Decides result (MeetsKeep M.Map.graph self.now place KeepRule.Node) }
+    fn meets_keep_node(&self, entry: Record) -> bool
+        ensures { (place : ℕ) → StandsAt self.now.slip.records.now place entry → Decides result (MeetsKeep M.Map.graph self.now place KeepRule.Node) }
     {
-        let record = self.slip.records[place];
-        self.map.is_node(self.word, record.node) && record.letter == 0
+        self.map.is_node(self.word, entry.node) && entry.letter == 0
     }
 
     // Does each successor of a record's node have a record, with a measure that falls where it should?
-    fn meets_keep_next(&self, place: usize) -> bool
-        requires { place < length self.now.slip.records.now }
-        ensures { Decides result (MeetsKeep M.Map.graph self.now place KeepRule.Next) }
+    fn meets_keep_next(&self, entry: Record) -> bool
+        ensures { (place : ℕ) → StandsAt self.now.slip.records.now place entry → Decides result (MeetsKeep M.Map.graph self.now place KeepRule.Next) }
     {
-        let record = self.slip.records[place];
-        self.are_successors_held(record.node, Some(self.limit(record)))
+        self.are_successors_held(entry.node, Some(self.limit(entry)))
     }
 
     // The first rule that a record of a keep slip breaks.
-    fn keep_breach(&self, place: usize) -> Option<KeepRule>
-        requires { place < length self.now.slip.records.now }
+    fn keep_breach(&self, place: usize, entry: Record) -> Option<KeepRule>
+        requires { StandsAt self.now.slip.records.now place entry }
         ensures { Lowest keep_number (MeetsKeep M.Map.graph self.now place) result }
     {
-        if !self.meets_keep_node(place) {
+        if !self.meets_keep_node(entry) {
             Some(KeepRule::Node)
-        } else if !self.meets_keep_next(place) {
+        } else if !self.meets_keep_next(entry) {
             Some(KeepRule::Next)
         } else {
             None
@@ -151,22 +146,20 @@ impl<'a, M: Map> Inspection<'a, M> {
     }
 
     // Has a record of a break slip a node, a letter of the graph, and measure 0?
-    fn meets_break_node(&self, place: usize) -> bool
-        requires { place < length self.now.slip.records.now }
-        ensures { Decides result (MeetsBreak M.Map.graph self.now place BreakRule.Node) }
+    fn meets_break_node(&self, entry: Record) -> bool
+        ensures { (place : ℕ) → StandsAt self.now.slip.records.now place entry → Decides result (MeetsBreak M.Map.graph self.now place BreakRule.Node) }
     {
-        let record = self.slip.records[place];
-        self.map.is_node(self.word, record.node)
-            && record.letter < self.map.letters(self.word)
-            && record.measure == 0
+        self.map.is_node(self.word, entry.node)
+            && entry.letter < self.map.letters(self.word)
+            && entry.measure == 0
     }
 
     // Has the record a start, if it is the first?
-    fn meets_break_start(&self, place: usize) -> bool
-        requires { place < length self.now.slip.records.now }
+    fn meets_break_start(&self, place: usize, entry: Record) -> bool
+        requires { StandsAt self.now.slip.records.now place entry }
         ensures { Decides result (MeetsBreak M.Map.graph self.now place BreakRule.Start) }
     {
-        place > 0 || self.map.is_start(self.word, self.slip.records[place].node)
+        place > 0 || self.map.is_start(self.word, entry.node)
     }
 
     // The place after a place, in the lasso that the records of a break slip are.
@@ -183,25 +176,24 @@ impl<'a, M: Map> Inspection<'a, M> {
     }
 
     // Does an edge lead from a record's node to that of the record that follows?
-    fn meets_break_next(&self, place: usize) -> bool
-        requires { (place < length self.now.slip.records.now) × (self.now.slip.stem < length self.now.slip.records.now) }
+    fn meets_break_next(&self, place: usize, entry: Record) -> bool
+        requires { StandsAt self.now.slip.records.now place entry × (self.now.slip.stem < length self.now.slip.records.now) }
         ensures { Decides result (MeetsBreak M.Map.graph self.now place BreakRule.Next) }
     {
-        let record = self.slip.records[place];
         let next = self.slip.records[self.after(place)];
-        self.is_edge(record.node, record.letter, next.node)
+        self.is_edge(entry.node, entry.letter, next.node)
     }
 
     // The first rule that a record of a break slip breaks.
-    fn break_breach(&self, place: usize) -> Option<BreakRule>
-        requires { (place < length self.now.slip.records.now) × (self.now.slip.stem < length self.now.slip.records.now) }
+    fn break_breach(&self, place: usize, entry: Record) -> Option<BreakRule>
+        requires { StandsAt self.now.slip.records.now place entry × (self.now.slip.stem < length self.now.slip.records.now) }
         ensures { Lowest break_number (MeetsBreak M.Map.graph self.now place) result }
     {
-        if !self.meets_break_node(place) {
+        if !self.meets_break_node(entry) {
             Some(BreakRule::Node)
-        } else if !self.meets_break_start(place) {
+        } else if !self.meets_break_start(place, entry) {
             Some(BreakRule::Start)
-        } else if !self.meets_break_next(place) {
+        } else if !self.meets_break_next(place, entry) {
             Some(BreakRule::Next)
         } else {
             None
@@ -214,7 +206,7 @@ impl<'a, M: Map> Inspection<'a, M> {
     {
         records
             .iter()
-            .any(|record| self.map.is_marked(self.word, record.node))
+            .any(|entry| self.map.is_marked(self.word, entry.node))
     }
 
     // Has a record a marked node, at this place or behind it?
@@ -238,13 +230,13 @@ impl<'a, M: Map> Inspection<'a, M> {
     }
 
     // The first rule that a record breaks.
-    fn record_breach(&self, place: usize) -> Option<Rule>
-        requires { place < length self.now.slip.records.now }
+    fn record_breach(&self, place: usize, entry: Record) -> Option<Rule>
+        requires { StandsAt self.now.slip.records.now place entry }
         ensures { LowestAt (graph_of M.Map.graph self.now) (content self.now.slip) place result }
     {
         match self.slip.kind {
-            Kind::Keep => self.keep_breach(place).map(Rule::Keep),
-            Kind::Break => self.break_breach(place).map(Rule::Break),
+            Kind::Keep => self.keep_breach(place, entry).map(Rule::Keep),
+            Kind::Break => self.break_breach(place, entry).map(Rule::Break),
         }
     }
 
@@ -269,8 +261,8 @@ impl<'a> Slip<'a> {
             word,
             slip: *self,
         };
-        for place in 0..self.records.len() {
-            if let Some(rule) = inspection.record_breach(place) {
+        for (place, &entry) in self.records.iter().enumerate() {
+            if let Some(rule) = inspection.record_breach(place, entry) {
                 return Some(Breach { rule, place });
             }
         }

@@ -1,9 +1,7 @@
-use Rattle.std.proofs.Common.{◌≡◌, ◌≤◌, ◌++◌, List, length, take, drop, reverse, ap, ◌∙◌, arith}
-use Rattle.std.proofs.lemmas.List.{length-reverse, length-take-le}
+use Rattle.std.proofs.Common.{◌≤◌, length, ap, arith}
 use Rattle.search.specs.declared.queues.Stop.TheVariants.{Found}
-use Rattle.search.specs.declared.records.Record.{Record}
 use Rattle.search.specs.Trips.{graph_for, Halted}
-use Rattle.search.proofs.Tracing.{some_left, turned_measures, turned_way}
+use Rattle.search.proofs.Tracing.{some_left, way_written}
 use Rattle.search.proofs.courses.write_way.Goals as goal
 
 pub returns : goal.returns
@@ -12,23 +10,13 @@ returns g c =
     let G = graph_for g.M.Map.graph trip in
     let queue = c.search.new.self in
     let count = c.trace-count.result in
-    let table = c.trace-count.new.table in
-    let was = c.args.table.now in
-    let len = c.in-Err-Found.ensures.same_table.len in
-    let new = c.new-queue.ensures.table in
-    let halted : Halted G trip.from trip.to queue.size queue.work.now (Found c.in-Err-Found.last) = rw c.in-Err-Found.field-0-is at c.in-Err-Found.ensures.searched in
+    let last = c.in-Err-Found.last in
+    let halted : Halted G trip.from trip.to queue.size queue.work.now (Found last) =
+    rw c.in-Err-Found.field-0-is at c.in-Err-Found.ensures.searched in
     let (queued, link, reached, leaves) = halted in
-    let traced = c.trace-count.ensures.traced G trip.to queued link in
-    let short : count ≤ length c.args.work.now = omega (arith, c.trace-count.ensures.fits, queue.within, len, ap length new) in
-    let inside : count ≤ length table = omega (arith, short, c.requires.room, c.trace-count.auto.table) in
-    let records : List Record = reverse (take count table) in
-    record {
-      records = records;
-      count_is = length-reverse (take count table) ∙ length-take-le count table inside;
-      short = short;
-      changed = ap (λ (xs : List Record). xs ++ drop count table) c.reverse.ensures.after ∙ ap (λ (ys : List Record). records ++ ys) traced.rest;
-      way = turned_way G trip.to count was table inside traced;
-      measures = turned_measures G trip.to count was table inside traced;
-      reached = reached;
-      leaves = λ none. leaves (some_left c.in-Err-Found.last.measure count c.trace-count.ensures.some none);
-    }
+    let short : count ≤ length c.args.work.now =
+    omega (arith, c.trace-count.ensures.fits, queue.within, c.in-Err-Found.ensures.same_table.len, ap length c.new-queue.ensures.table) in
+    way_written G trip.from trip.to (length c.args.work.now) count c.args.table.now c.trace-count.new.table c.turn_round.new.table
+    (c.trace-count.ensures.traced G trip.to queued link) c.turn_round.ensures reached
+    (λ none. leaves (some_left last.measure count c.trace-count.ensures.some none))
+    short c.requires.room c.trace-count.auto.table

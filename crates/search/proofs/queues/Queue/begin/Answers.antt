@@ -1,15 +1,14 @@
 use Rattle.std.proofs.Common.{◌≡◌, ℕ, true, refl, sym, subst, inl}
 use Rattle.std.proofs.lemmas.Bool.{eq-eqb, eqb-true}
 use Rattle.graph.specs.Walks.{begin}
-use Rattle.search.specs.declared.queues.Origin.TheVariants.{Starts, Node}
 use Rattle.search.specs.declared.records.Record.{Record}
 use Rattle.search.specs.Graphs.{graph_of}
 use Rattle.search.specs.Trips.{begins, graph_for, Added, NoRoom, Taken, Begun, Halted}
 use Rattle.search.proofs.Queueing.{grown, no_room, taken_all, begun_starts, begun_node, queued_none, match_both}
 use Rattle.search.proofs.queues.Queue.begin.Goals as goal
 
-pub take-requires-clause-leads : goal.take-requires-clause-leads
-take-requires-clause-leads g c v is =
+pub add_all-requires-clause-leads : goal.add_all-requires-clause-leads
+add_all-requires-clause-leads g c v is =
     let start : (graph_for g.M.Map.graph c.args.trip.now).start v ≡ true =
     subst (λ f. begins (graph_of g.M.Map.graph c.args.trip.now.graph) f v ≡ true) (sym c.in-Starts.is) is in
     (begin start, inl (c.default.ensures.1.1, start))
@@ -18,15 +17,15 @@ pub returns-in-Starts-clause-begun : goal.returns-in-Starts-clause-begun
 returns-in-Starts-clause-begun g c =
     let trip = c.args.trip.now in
     let s = c.args.self.now in
-    let work = c.take.new.self in
+    let work = c.add_all.new.self in
     let G = graph_for g.M.Map.graph trip in
     let P : ℕ → Type 0 = λ v. (graph_of g.M.Map.graph trip.graph).start v ≡ true in
     match_both (Taken G trip.to P s.size s.work.now work.size work.work.now) (Begun G trip.from trip.to work.size work.work.now)
-    (Halted G trip.from trip.to work.size work.work.now) (Halted G trip.from trip.to work.size work.work.now) c.take.result
+    (Halted G trip.from trip.to work.size work.work.now) (Halted G trip.from trip.to work.size work.work.now) c.add_all.result
     (λ taken. begun_starts G trip.from trip.to s.size s.work.now work.size work.work.now
     (taken_all G trip.to P (λ v. G.start v ≡ true) s.size s.work.now work.size work.work.now taken
     (λ v h. subst (λ f. begins (graph_of g.M.Map.graph trip.graph) f v ≡ true) c.in-Starts.is h)))
-    (λ e h. h) c.take.ensures.taken
+    (λ e h. h) c.add_all.ensures.added
 
 pub returns-in-Node-clause-begun : goal.returns-in-Node-clause-begun
 returns-in-Node-clause-begun g c =

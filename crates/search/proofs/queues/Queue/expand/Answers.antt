@@ -8,14 +8,15 @@ use Rattle.search.specs.Weights.{ByLetters}
 use Rattle.search.proofs.Queueing.{leads_letter, taken_letter, taken_all}
 use Rattle.search.proofs.queues.Queue.expand.Goals as goal
 
-pub take-requires-clause-leads : goal.take-requires-clause-leads
-take-requires-clause-leads g c =
+pub add_all-requires-clause-leads : goal.add_all-requires-clause-leads
+add_all-requires-clause-leads g c =
     let s = c.args.self.now in
     let mid = c.loop-letter.self in
     let taken = c.loop-letter.invariant.1 in
     let v = node_at s.work.now c.args.place in
     let by : Record = record { node = v; letter = c.loop-letter.letter; measure = c.args.place + 1 } in
-    let few : c.loop-letter.letter < (graph_of g.M.Map.graph c.args.trip.now.graph).letters = omega (arith, c.letters-letter-end.ensures, c.loop-letter-test.true) in
+    let few : c.loop-letter.letter < (graph_of g.M.Map.graph c.args.trip.now.graph).letters =
+    omega (arith, c.letters-letter-end.ensures, c.loop-letter-test.true) in
     leads_letter (graph_for g.M.Map.graph c.args.trip.now) c.args.place v c.loop-letter.letter by mid.size mid.work.now taken.queued
     (omega (arith, c.requires.inside, taken.longer.more)) (taken.longer.same c.args.place c.requires.inside) few refl (omega arith)
 
@@ -24,16 +25,17 @@ loop-letter-preserved g c =
     let s = c.args.self.now in
     let trip = c.args.trip.now in
     let mid = c.loop-letter.self in
-    let work = c.take.new.self in
+    let work = c.add_all.new.self in
     let (same, taken) = c.loop-letter.invariant in
-    let table = c.in_ok-take.ensures.same_table in (
+    let table = c.in_ok-add_all.ensures.same_table in (
       record { reference = table.reference ∙ same.reference; len = table.len ∙ same.len },
-      taken_letter (graph_for g.M.Map.graph trip) trip.to (node_at s.work.now c.args.place) c.loop-letter.letter s.size s.work.now mid.size mid.work.now work.size work.work.now
-          taken c.in_ok-take.ensures.taken,
+      taken_letter (graph_for g.M.Map.graph trip) trip.to (node_at s.work.now c.args.place) c.loop-letter.letter
+          s.size s.work.now mid.size mid.work.now work.size work.work.now
+          taken c.in_ok-add_all.ensures.added,
     )
 
-pub returns-clause-taken : goal.returns-clause-taken
-returns-clause-taken g c =
+pub returns-clause-added : goal.returns-clause-added
+returns-clause-added g c =
     let s = c.args.self.now in
     let trip = c.args.trip.now in
     let mid = c.loop-letter.self in

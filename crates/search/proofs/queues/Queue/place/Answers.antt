@@ -1,4 +1,3 @@
-use Rattle.std.proofs.Common.{arith}
 use Rattle.search.proofs.Parts.{found_in_front}
 use Rattle.search.proofs.queues.Queue.place.Goals as goal
 

@@ -1,9 +1,8 @@
-use Rattle.std.proofs.Common.{◌≤◌, ◌+◌, ◌∙◌, subst, arith}
-use Rattle.search.specs.Graphs.{graph_of}
+use Rattle.std.proofs.Common.{◌∙◌, arith}
 use Rattle.search.specs.Tables.{node_at}
 use Rattle.search.specs.Trips.{graph_for}
 use Rattle.graph.specs.Walks.{Edge}
-use Rattle.search.proofs.Queueing.{Closed, begun_more, closed_more, missed}
+use Rattle.search.proofs.Queueing.{begun_more, closed_more, missed}
 use Rattle.search.proofs.queues.Queue.search.Goals as goal
 
 pub loop-place-preserved : goal.loop-place-preserved
@@ -14,7 +13,7 @@ loop-place-preserved g c =
     let G = graph_for g.M.Map.graph trip in
     let (same, low, begun, closed) = c.loop-place.invariant in
     let table = c.in_ok-expand.ensures.same_table in
-    let taken = c.in_ok-expand.ensures.taken in
+    let taken = c.in_ok-expand.ensures.added in
     let P = Edge G (node_at mid.work.now c.loop-place.place) in (
       record { reference = table.reference ∙ same.reference; len = table.len ∙ same.len },
       omega (arith, taken.longer.more, c.loop-place-test.true),

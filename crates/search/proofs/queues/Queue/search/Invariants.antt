@@ -6,7 +6,8 @@ use Rattle.search.proofs.queues.Queue.search.Given as goal
 
 abbrev pub invariant-loop-place : goal.invariant-loop-place
 invariant-loop-place g l =
-    SameTable l.initial.self.work l.self.work × (l.place ≤ l.self.size) × Begun (graph_for g.M.Map.graph l.trip) l.trip.from l.trip.to l.self.size l.self.work.now
+    SameTable l.initial.self.work l.self.work × (l.place ≤ l.self.size)
+    × Begun (graph_for g.M.Map.graph l.trip) l.trip.from l.trip.to l.self.size l.self.work.now
     × Closed (graph_for g.M.Map.graph l.trip) l.trip.to l.place l.self.size l.self.work.now
 
 abbrev pub decreases-loop-place : goal.decreases-loop-place

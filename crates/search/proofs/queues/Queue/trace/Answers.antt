@@ -18,8 +18,9 @@ loop-place-preserved c =
       omega (arith, c.in-Some.ensures, low, less),
       λ any. omega arith,
       λ g to q link. tracing_more g to l.count place l.record s.size s.work.now c.args.table.now l.table q c.in-Some.ensures
-          (omega (arith, c.in-Some.ensures, low, c.requires.last)) (omega (arith, c.in-Some.ensures, low, c.requires.last, c.requires.room, l.auto.table))
-          (tracing g to q link),
+          (omega (arith, c.in-Some.ensures, low, c.requires.last))
+          (omega (arith, c.in-Some.ensures, low, c.requires.last, c.requires.room, l.auto.table))
+          (tracing g to q link) c.step.result c.step.ensures,
     )
 
 pub returns-clause-traced : goal.returns-clause-traced

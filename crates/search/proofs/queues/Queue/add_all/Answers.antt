@@ -1,4 +1,4 @@
-use Rattle.std.proofs.Common.{◌≡◌, ◌<◌, true, Some, None, ap, ◌∙◌, sym, subst, arith, rules}
+use Rattle.std.proofs.Common.{◌≡◌, ◌<◌, true, Some, None, ap, ◌∙◌, subst, arith, rules}
 use Rattle.search.specs.declared.graphs.Rising.{Rising}
 use Rattle.search.specs.declared.records.Record.{Record}
 use Rattle.search.specs.Graphs.{graph_of, among}
@@ -6,19 +6,21 @@ use Rattle.search.specs.Rising.{Passed}
 use Rattle.search.specs.Trips.{graph_for, Halted}
 use Rattle.search.proofs.Queueing.{no_room, taken_none, taken_next, taken_all, leads_more}
 use Rattle.search.proofs.Rising.{next_of}
-use Rattle.search.proofs.queues.Queue.take.Goals as goal
+use Rattle.search.proofs.queues.Queue.add_all.Goals as goal
 
 pub loop-node-init : goal.loop-node-init
 loop-node-init g c =
     let s = c.args.self.now in
     let i = c.into_iter-node-iterator in
     let r = c.rising-node-items.ensures in
-    let P = among (graph_of g.M.Map.graph c.args.trip.now.graph) c.args.nodes in (
+    let trip = c.args.trip.now in
+    let from = ap (λ (x : Rising _). x.from) i.ensures.into_iter_gives ∙ r.from in
+    let P = among (graph_of g.M.Map.graph trip.graph) c.args.nodes in (
       ap (λ (x : Rising _). x.graph) i.ensures.into_iter_gives ∙ r.graph,
       ap (λ (x : Rising _). x.nodes) i.ensures.into_iter_gives ∙ r.nodes,
       search rules,
-      taken_none (graph_for g.M.Map.graph c.args.trip.now) c.args.trip.now.to (λ v. (P v ≡ true) × Passed i.result.from v) s.size s.work.now c.requires.queued
-          (λ v (is, passed). let below : v < 0 = subst (λ f. Passed f v) (ap (λ (x : Rising _). x.from) i.ensures.into_iter_gives ∙ r.from) passed in omega arith),
+      taken_none (graph_for g.M.Map.graph trip) trip.to (λ v. (P v ≡ true) × Passed i.result.from v) s.size s.work.now c.requires.queued
+          (λ v (is, passed). let below : v < 0 = subst (λ f. Passed f v) from passed in omega arith),
     )
 
 pub loop-node-preserved : goal.loop-node-preserved
@@ -29,7 +31,8 @@ loop-node-preserved g c =
     let work = c.add.new.self in
     let (graph, nodes, same, taken) = c.loop-node.invariant in
     let rises = c.in-Some.ensures.steps in
-    let gives = next_of g.M.Map.graph c.loop-node.node-iterator c.next.new.self (Some c.in-Some.node) trip.graph c.args.nodes graph nodes rises in
+    let gives =
+    next_of g.M.Map.graph c.loop-node.node-iterator c.next.new.self (Some c.in-Some.node) trip.graph c.args.nodes graph nodes rises in
     let table = c.in_ok-add.ensures.same_table in (
       rises.same_graph ∙ graph,
       rises.same_nodes ∙ nodes,
@@ -39,20 +42,21 @@ loop-node-preserved g c =
           c.requires.leads gives c.if-node-trip.false taken c.in_ok-add.ensures.added,
     )
 
-pub returns-then-node-trip-clause-taken : goal.returns-then-node-trip-clause-taken
-returns-then-node-trip-clause-taken g c =
+pub returns-then-node-trip-clause-added : goal.returns-then-node-trip-clause-added
+returns-then-node-trip-clause-added g c =
     let s = c.args.self.now in
     let trip = c.args.trip.now in
     let mid = c.loop-node.self in
     let P = among (graph_of g.M.Map.graph trip.graph) c.args.nodes in
     let (graph, nodes, same, taken) = c.loop-node.invariant in
-    let gives = next_of g.M.Map.graph c.loop-node.node-iterator c.next.new.self (Some c.in-Some.node) trip.graph c.args.nodes graph nodes c.in-Some.ensures.steps in
+    let gives =
+    next_of g.M.Map.graph c.loop-node.node-iterator c.next.new.self (Some c.in-Some.node) trip.graph c.args.nodes graph nodes c.in-Some.ensures.steps in
     let (reached, link) = leads_more (graph_for g.M.Map.graph trip) P c.args.by s.size s.work.now mid.size mid.work.now c.requires.leads taken.longer
     trip.to (subst (λ x. P x ≡ true) c.if-node-trip.true gives.0) in
     (taken.queued, link, reached, c.requires.leaves)
 
-pub returns-in_err-add-clause-taken : goal.returns-in_err-add-clause-taken
-returns-in_err-add-clause-taken g c =
+pub returns-in_err-add-clause-added : goal.returns-in_err-add-clause-added
+returns-in_err-add-clause-added g c =
     let s = c.args.self.now in
     let trip = c.args.trip.now in
     let mid = c.loop-node.self in
@@ -60,7 +64,8 @@ returns-in_err-add-clause-taken g c =
     let G = graph_for g.M.Map.graph trip in
     let P = among (graph_of g.M.Map.graph trip.graph) c.args.nodes in
     let (graph, nodes, same, taken) = c.loop-node.invariant in
-    let gives = next_of g.M.Map.graph c.loop-node.node-iterator c.next.new.self (Some c.in-Some.node) trip.graph c.args.nodes graph nodes c.in-Some.ensures.steps in
+    let gives =
+    next_of g.M.Map.graph c.loop-node.node-iterator c.next.new.self (Some c.in-Some.node) trip.graph c.args.nodes graph nodes c.in-Some.ensures.steps in
     let r : Record = record { node = c.in-Some.node; letter = c.args.by.letter; measure = c.args.by.measure } in
     let halted : Halted G trip.from trip.to work.size work.work.now c.in_err-add.field-0.0 =
     no_room G trip.from trip.to r mid.size mid.work.now work.size work.work.now c.in_err-add.field-0.0 taken.queued
@@ -68,13 +73,15 @@ returns-in_err-add-clause-taken g c =
     c.in_err-add.ensures.same_table.len c.in_err-add.ensures.added in
     search rules
 
-pub returns-clause-taken : goal.returns-clause-taken
-returns-clause-taken g c =
+pub returns-clause-added : goal.returns-clause-added
+returns-clause-added g c =
     let s = c.args.self.now in
     let trip = c.args.trip.now in
     let mid = c.loop-node.self in
     let P = among (graph_of g.M.Map.graph trip.graph) c.args.nodes in
     let (graph, nodes, same, taken) = c.loop-node.invariant in
-    let gives = next_of g.M.Map.graph c.loop-node.node-iterator c.next.new.self None trip.graph c.args.nodes graph nodes c.in-None.ensures.steps in
-    taken_all (graph_for g.M.Map.graph trip) trip.to (λ v. (P v ≡ true) × Passed c.loop-node.node-iterator.from v) (λ v. P v ≡ true) s.size s.work.now mid.size mid.work.now
+    let gives =
+    next_of g.M.Map.graph c.loop-node.node-iterator c.next.new.self None trip.graph c.args.nodes graph nodes c.in-None.ensures.steps in
+    taken_all (graph_for g.M.Map.graph trip) trip.to (λ v. (P v ≡ true) × Passed c.loop-node.node-iterator.from v) (λ v. P v ≡ true)
+    s.size s.work.now mid.size mid.work.now
     taken (λ v is. (is, gives v is))
