@@ -3,7 +3,7 @@ use Rattle.std.proofs.Common.{◌≡◌, ◌∙◌, ℕ, ◌≤◌, List, Ok, Er
 use Rattle.std.specs.Borrow.{Bor}
 use Rattle.std.specs.Prelude.{IfOk, MatchResult}
 use Rattle.bench.specs.Benches.{SameBench, duty_on, rule_on}
-use Rattle.bench.specs.Calls.{InspectTells, JudgeTells, PutTells, ReleaseTells, Sized}
+use Rattle.bench.specs.Calls.{InspectTells, JudgeTells, PutTells, ReleaseTells, Sized, WillPass}
 use Rattle.bench.specs.Histories.{HandsOut, History, Law, LedTo, NoPassed, Sound}
 use Rattle.bench.specs.Making.{NewBench, NewRefused}
 use Rattle.bench.specs.Slips.{slip_at}
@@ -11,6 +11,7 @@ use Rattle.bench.specs.declared.benches.Bench.{Bench}
 use Rattle.bench.specs.declared.states.State.{State}
 use Rattle.bench.specs.declared.states.State.TheVariants.{Empty, Drafted, Passed}
 use Rattle.bench.specs.declared.verdicts.Verdict.{Verdict}
+use Rattle.bench.proofs.Passing.{judge_passes}
 use Rattle.bench.proofs.Standing.{Standing, standing}
 use Rattle.chart.specs.Automata.{Automaton}
 use Rattle.chart.specs.Fits.{fitted_of_limits}
@@ -178,3 +179,12 @@ module _ {D R : Type 0} (meaning_d : D → Automaton) (meaning_r : R → Automat
             subst (λ x. History (meaning_d duty) (meaning_r rule) room x table) (sym n.empty) (History.make table sized);
       }
   new_law duty rule room (Err e) n = tt
+
+  pub judge_next : (s : Bench D R) (table work : List Record) (s' : Bench D R) (table' work' : List Record) (r : Result Verdict BenchFault)
+      → JudgeTells (duty_on meaning_d s) (rule_on meaning_r s) s.room s.state table work s'.state table' work' r → SameBench s s'
+      → IfOk r (λ v. WillPass (duty_on meaning_d s') (rule_on meaning_r s') s'.room s'.state table')
+  judge_next s table work s' table' work' r tells same =
+      subst (λ n. IfOk r (λ v. WillPass (duty_on meaning_d s') (rule_on meaning_r s') n s'.state table')) (sym same.room)
+      (subst (λ y. IfOk r (λ v. WillPass (duty_on meaning_d s') y s.room s'.state table')) (sym (ap (fitted_of meaning_r) same.rule))
+      (subst (λ x. IfOk r (λ v. WillPass x (rule_on meaning_r s) s.room s'.state table')) (sym (ap (fitted_of meaning_d) same.duty))
+      (judge_passes (duty_on meaning_d s) (rule_on meaning_r s) s.room s.state table work s'.state table' work' r tells)))

@@ -1,7 +1,8 @@
-pub mod BreakSlips
 pub mod Handing
-pub mod Deciding
 pub mod KeepSlips
+pub mod BreakSlips
+pub mod Deciding
 pub mod Standing
+pub mod Passing
 pub mod Lasting
 pub mod WorkedExamples

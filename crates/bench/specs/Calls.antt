@@ -104,6 +104,10 @@ module _ (a b : Automaton) (room : ℕ) (s : State) (table : List Record) where
     abbrev pub InspectTells : Result (Unit {0}) BenchFault → Type 0
     InspectTells r = MatchResult r (λ _. Inspected) InspectRefused
 
+  -- inspect, called next, passes the slip
+  abbrev pub WillPass : Type 0
+  WillPass = (s' : State) (e : BenchFault) → InspectRefused s' e → ⊥
+
   pub record Released (out : List Record) : Type 0 where
     pub sized : Sized room table
     pub form : Form

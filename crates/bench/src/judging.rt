@@ -1,5 +1,5 @@
 // Judge: the search of the ranked graph, and the slip that it leaves.
-ghost use Rattle.std.specs.Prelude.{◌≡◌, ◌*◌, length, [], MatchResult};
+ghost use Rattle.std.specs.Prelude.{◌≡◌, ◌*◌, length, [], IfOk, MatchResult};
 ghost use Rattle.bench.specs.Drafting.{Wrote, verdict_of};
 ghost use Rattle.search.specs.Surveys.{Surveyed};
 
@@ -42,7 +42,7 @@ fn write_slip<M: Map>(map: &M, found: Findings, work: &mut [Record], table: &mut
 
 impl<D: Chart, R: Chart> Bench<D, R> {
     ghost use Rattle.bench.specs.Benches.{SameBench, duty_on, rule_on};
-    ghost use Rattle.bench.specs.Calls.{JudgeTells, Sized};
+    ghost use Rattle.bench.specs.Calls.{JudgeTells, Sized, WillPass};
     ghost use Rattle.bench.specs.Drafting.{Searched, SearchRefused};
     ghost use Rattle.bench.specs.Histories.{Law};
     ghost use Rattle.fault.specs.declared.BenchFault.TheVariants as faults;
@@ -95,6 +95,7 @@ impl<D: Chart, R: Chart> Bench<D, R> {
     ) -> Result<Verdict, BenchFault>
         ensures answer { JudgeTells (duty_on D.Chart.meaning self.old) (rule_on R.Chart.meaning self.old) self.old.room self.old.state table.old work.old self.new.state table.new work.new result }
         ensures bench { SameBench self.old self.new }
+        ensures passes { IfOk result (λ v. WillPass (duty_on D.Chart.meaning self.new) (rule_on R.Chart.meaning self.new) self.new.room self.new.state table.new) }
         ensures law { Law D.Chart.meaning R.Chart.meaning self.old table.old self.new table.new (λ a b n. JudgeTells a b n self.old.state table.old work.old self.new.state table.new work.new result) }
     {
         self.draft(table, work)

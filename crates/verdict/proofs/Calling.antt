@@ -1,18 +1,16 @@
 -- Judge, inspect and release, by what the law says of each.
 use Rattle.std.proofs.Common.{◌≡◌, ℕ, List, subst, sym, take}
 use Rattle.bench.specs.Benches.{duty_on, rule_on}
-use Rattle.bench.specs.Calls.{Inspected, InspectRefused, Judged, Sized}
+use Rattle.bench.specs.Calls.{Inspected, Judged, Sized}
 use Rattle.bench.specs.Histories.{HandsOut, Law, LedTo}
 use Rattle.bench.specs.States.{stem_of}
 use Rattle.bench.specs.declared.benches.Bench.{Bench}
 use Rattle.bench.specs.declared.verdicts.Verdict.{Verdict}
 use Rattle.chart.specs.Automata.{Automaton}
-use Rattle.fault.specs.declared.BenchFault.{BenchFault}
 use Rattle.search.specs.declared.records.Record.{Record}
 use Rattle.verdict.specs.Certified.{Certifies}
 use Rattle.verdict.specs.declared.certifying.Certified.{Certified}
 use Rattle.verdict.proofs.Joining.{certified}
-use Rattle.verdict.proofs.Passing.{judged_passes}
 
 module _ {D R : Type 0} (meaning_d : D → Automaton) (meaning_r : R → Automaton) (a b : Automaton) (room : ℕ) (s t u : Bench D R)
     (table work table' work' : List Record) (v : Verdict) (made : (own : List Record) → Sized room own → LedTo meaning_d meaning_r a b room s own)
@@ -22,11 +20,6 @@ module _ {D R : Type 0} (meaning_d : D → Automaton) (meaning_r : R → Automat
   judged : Judged a b room s.state table work t.state table' work' v × LedTo meaning_d meaning_r a b room t table'
   judged =
       let r = law.own a b room (made table (subst (λ n. Sized n table) same_room answer.sized)) in (r.0, r.1)
-
-  pub granted : (e : BenchFault) → Law meaning_d meaning_r t table' u table' (λ a b n. InspectRefused a b n t.state table' u.state e) → ⊥
-  granted e inspect =
-      let refused = inspect.own a b room judged.1 in
-      judged_passes a b room s.state table work t.state table' work' v judged.0 u.state e refused.0
 
   pub handed_out : Law meaning_d meaning_r t table' u table' (λ a b n. Inspected a b n t.state table' u.state) → (c : Certified) → c.verdict ≡ v
       → ((a b : Automaton) (n : ℕ) → LedTo meaning_d meaning_r a b n u table' → HandsOut a b u.state table' c.released.now)

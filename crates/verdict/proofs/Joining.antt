@@ -16,7 +16,7 @@ use Rattle.slip.specs.Shapes.{stems}
 use Rattle.slip.specs.Showing.{Shows}
 use Rattle.verdict.specs.Certified.{Certifies, slip_of}
 use Rattle.verdict.specs.declared.certifying.Certified.{Certified}
-use Rattle.verdict.proofs.Passing.{judged_slip}
+use Rattle.bench.proofs.Passing.{judged_slip}
 
 joined : (kind : Kind) (stem : ℕ) (rs : List Record) → stem < stems kind (length rs) → take stem rs ++ handed_for kind stem rs ≡ rs
 joined Keep stem rs placed = let none : stem ≡ 0 = omega (arith, placed) in ap (λ k. take k rs ++ rs) none

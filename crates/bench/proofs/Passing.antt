@@ -1,6 +1,7 @@
 -- What judge leaves passes inspection.
-use Rattle.std.proofs.Common.{◌≡◌, ◌∙◌, ℕ, List, ⊎_elim, ap, subst, sym, arith}
-use Rattle.bench.specs.Calls.{Formed, InspectRefused, Judged, Sized}
+use Rattle.std.proofs.Common.{◌≡◌, ◌∙◌, ℕ, List, Ok, Err, Result, ⊎_elim, ap, subst, sym, arith}
+use Rattle.std.specs.Prelude.{IfOk}
+use Rattle.bench.specs.Calls.{Formed, Judged, JudgeTells, Sized, WillPass}
 use Rattle.bench.specs.Slips.{form_of, slip_at}
 use Rattle.bench.specs.declared.states.Form.{Form}
 use Rattle.bench.specs.declared.states.State.{State}
@@ -34,10 +35,15 @@ module _ (a b : Automaton) (room : ℕ) (s : State) (table work : List Record) (
   judged_slip f formed =
       ap (λ d. slip_at d table') (judged_form f formed) ∙ (ap (slip_at (form_of j.slip)) j.changed ∙ slip_over j.slip table)
 
-  pub judged_passes : (s'' : State) (e : BenchFault) → InspectRefused a b room s' table' s'' e → ⊥
+  judged_passes : WillPass a b room s' table'
   judged_passes s'' faults.Room i = i.0 judged_sized
   judged_passes s'' faults.Vacant i = let c = sym j.state ∙ i.1 in absurd (cc)
   judged_passes s'' (faults.Broken breach) i =
       met_or_broken (ranked_graph a b) j.slip breach j.drafts.meets
       (subst (λ c. FirstBreach (ranked_graph a b) c breach) (judged_slip i.1.0 i.1.1) i.1.2)
   judged_passes s'' e i = absurd i
+
+pub judge_passes : (a b : Automaton) (room : ℕ) (s : State) (table work : List Record) (s' : State) (table' work' : List Record)
+    (r : Result Verdict BenchFault) → JudgeTells a b room s table work s' table' work' r → IfOk r (λ v. WillPass a b room s' table')
+judge_passes a b room s table work s' table' work' (Ok v) j = judged_passes a b room s table work s' table' work' v j
+judge_passes a b room s table work s' table' work' (Err e) j = tt
