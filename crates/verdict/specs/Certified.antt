@@ -33,14 +33,14 @@ module _ (a b : Automaton) (room : ℕ) where
     pub allowed : Allowed room
     pub sized : Sized room table
 
-  -- 5 comes before 6, 6 before 7, and 7 before 13.
-  abbrev pub DecideRefused : List Record → List Record → BenchFault → Type 0
-  DecideRefused table work Letters = a.letters ≡ b.letters → ⊥
-  DecideRefused table work States = (a.letters ≡ b.letters) × (6 < b.states)
-  DecideRefused table work Room =
-      (a.letters ≡ b.letters) × (b.states ≤ 6) × (Allowed room × Sized room table × (length work ≡ room) → ⊥)
-  DecideRefused table work (Search Full) = Ready table × (length work ≡ room) × More (ranked_graph a b) room
-  DecideRefused table work _ = ⊥
+  -- 5 comes before 6, 6 before 7, and 7 before 13; but for 13 the work table is as it was.
+  abbrev pub DecideRefused : List Record → List Record → List Record → BenchFault → Type 0
+  DecideRefused table work work' Letters = (a.letters ≡ b.letters → ⊥) × (work' ≡ work)
+  DecideRefused table work work' States = (a.letters ≡ b.letters) × (6 < b.states) × (work' ≡ work)
+  DecideRefused table work work' Room =
+      (a.letters ≡ b.letters) × (b.states ≤ 6) × (Allowed room × Sized room table × (length work ≡ room) → ⊥) × (work' ≡ work)
+  DecideRefused table work work' (Search Full) = Ready table × (length work ≡ room) × More (ranked_graph a b) room
+  DecideRefused table work work' _ = ⊥
 
   pub record Confirms (c : Certificate) (out : List Record) : Type 0 where
     pub meets : Meets (ranked_graph a b) c

@@ -37,7 +37,7 @@ pub fn decide<'a, D: Chart + Drop, R: Chart + Drop>(
     table: &'a mut [Record],
     work: &mut [Record],
 ) -> Result<Certified<'a>, BenchFault>
-    ensures { MatchResult result (Certifies (D.Chart.meaning duty) (R.Chart.meaning rule) room) (DecideRefused (D.Chart.meaning duty) (R.Chart.meaning rule) room table.entry.now work.old) }
+    ensures { MatchResult result (Certifies (D.Chart.meaning duty) (R.Chart.meaning rule) room) (DecideRefused (D.Chart.meaning duty) (R.Chart.meaning rule) room table.entry.now work.old work.new) }
 {
     let mut bench = Bench::new(duty, rule, room)?;
     let verdict = bench.judge(table, work)?;
