@@ -31,6 +31,7 @@ impl<D: Chart + Drop, R: Chart + Drop> Bench<D, R> {
     ghost use Rattle.bench.specs.Histories.{LedTo};
     ghost use Rattle.bench.specs.Making.{NewBench, NewRefused};
 
+    // The work of `new`.
     fn set_up(duty: D, rule: R, room: usize) -> Result<Bench<D, R>, BenchFault>
         ensures { MatchResult result (NewBench D.Chart.meaning R.Chart.meaning duty rule room) (NewRefused (D.Chart.meaning duty) (R.Chart.meaning rule) room) }
     {

@@ -56,6 +56,7 @@ impl<D: Chart, R: Chart> Bench<D, R> {
         }
     }
 
+    // The work of `put`. Here and below the law is left to the public call, so that what each part does is proved apart from it.
     fn fill(
         &mut self,
         kind: Kind,
@@ -119,6 +120,7 @@ impl<D: Chart, R: Chart> Bench<D, R> {
         form.slip(table).first_breach(&self.map(), NO_WORD)
     }
 
+    // The work of `inspect`.
     fn examine(&mut self, table: &[Record]) -> Result<(), BenchFault>
         ensures answer { InspectTells (duty_on D.Chart.meaning self.old) (rule_on R.Chart.meaning self.old) self.old.room self.old.state table.now self.new.state result }
         ensures bench { SameBench self.old self.new }
@@ -144,6 +146,7 @@ impl<D: Chart, R: Chart> Bench<D, R> {
         self.examine(table)
     }
 
+    // The work of `release`.
     fn hand_out<'a>(&self, table: &'a [Record]) -> Result<&'a [Record], BenchFault>
         ensures answer { ReleaseTells (duty_on D.Chart.meaning self.now) (rule_on R.Chart.meaning self.now) self.now.room self.now.state table.now result }
     {

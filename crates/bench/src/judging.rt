@@ -73,6 +73,7 @@ impl<D: Chart, R: Chart> Bench<D, R> {
         Ok((tell(found), form))
     }
 
+    // The work of `judge`.
     fn draft(&mut self, table: &mut [Record], work: &mut [Record]) -> Result<Verdict, BenchFault>
         ensures answer { JudgeTells (duty_on D.Chart.meaning self.old) (rule_on R.Chart.meaning self.old) self.old.room self.old.state table.old work.old self.new.state table.new work.new result }
         ensures bench { SameBench self.old self.new }
