@@ -3,7 +3,7 @@ use Rattle.std.proofs.Common.{◌≡◌, ℕ, zero, suc, ◌+◌, ◌%◌, ◌<�
 use Rattle.std.proofs.lemmas.Bool.{and_from, and_left, and_parts, and_right, both_ways, cases_lt, eq-eqb, eqb-true, false_from_ne_true, le-leb, le-ltb, leb-true, lt-ltb}
 use lib.Bits.{bit_or}
 use lib.Dec.{eqb-suc-zero, leb-suc-suc}
-use Rattle.chart.specs.Automata.{Automaton}
+use Rattle.chart.specs.Automata.{Automaton, Limits}
 use Rattle.chart.specs.Kinds.{bit}
 use Rattle.chart.proofs.Bits.{bit_of_or}
 use Rattle.rank.specs.Layout.{rank_held}
@@ -159,3 +159,8 @@ module _ (n : ℕ) (b : Automaton) (ranks l q least : ℕ) (low : LowestBelow n 
             (cases_lt p n);
         there = λ h. let t = low.there h in (t.0, omega (arith, t.1), t.2, t.3);
       }
+
+-- no state leads beyond the rule's
+pub lowest_none : (b : Automaton) → Limits b → (ranks l q : ℕ) → b.states ≤ q → Lowest b ranks l q 0
+lowest_none b limits ranks l q high =
+    record { below = λ p h ranked s. absurd (omega (arith, (limits.steps p l q s).2, high)); there = λ h. absurd (omega (arith, h)) }

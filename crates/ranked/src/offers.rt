@@ -70,6 +70,10 @@ impl RankedMap {
         requires letter { letter < self.now.rule.letters }
         ensures { (v : ℕ) → Reads v node → is_number (duty_of self.now) (rule_of self.now) v ≡ true → (d : ℕ) → d < 16 → bit result d ≡ (may_have (rule_of self.now) q (rank_held d) && is_next_rank (rule_of self.now) (parts v).rank letter q (rank_held d)) }
     {
+        // none leads beyond the states of the rule
+        if q >= self.rule.states {
+            return 1;
+        }
         digits_upto(
             self.lowest(node.ranks, letter, q),
             contains(self.rule.marks, q as u64),

@@ -6,6 +6,8 @@
 mod cycles;
 mod ends;
 #[cfg(test)]
+mod lassos;
+#[cfg(test)]
 mod limits;
 #[cfg(test)]
 mod measures;

@@ -4,6 +4,7 @@
 
 mod bands;
 mod charts;
+mod dense;
 mod pairs;
 mod walks;
 

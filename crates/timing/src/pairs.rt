@@ -1,5 +1,6 @@
 // Tells how long the ranked graphs of the pairs take: to make the map, to search it, and to ask it for each edge.
 use crate::charts::{PAIRS, Pair, Sheet};
+use crate::dense::DENSE;
 use crate::walks::count_edges;
 use anyhow::anyhow;
 use chart::Table;
@@ -82,6 +83,9 @@ fn time(rt: &HostRuntime, pair: &Pair) -> anyhow::Result<()> {
 
 pub(crate) fn figures(rt: &HostRuntime) -> anyhow::Result<()> {
     println!(rt; "graph nodes edges marked-cycle map-us search-us walk-us")?;
+    for pair in &DENSE {
+        time(rt, pair)?;
+    }
     for pair in &PAIRS {
         time(rt, pair)?;
     }
