@@ -1,9 +1,12 @@
 -- What the report on two texts says, and its bytes.
 use Rattle.std.specs.Prelude.{◌≡◌, ℕ, ◌≤◌, List, Ok, Err, Result, MatchResult}
+use Rattle.bench.specs.Shown.{verdict_text}
+use Rattle.bench.specs.Verdicts.{Decides}
+use Rattle.bench.specs.declared.verdicts.Verdict.{Verdict}
 use Rattle.chart.specs.Automata.{Automaton}
 use Rattle.fault.specs.declared.BenchFault.{BenchFault}
 use Rattle.fault.specs.declared.BenchFault.TheVariants as bench
-use Rattle.fault.specs.declared.SearchFault.TheVariants.{Table, Full}
+use Rattle.fault.specs.declared.SearchFault.TheVariants.{Full}
 use Rattle.graph.specs.Walks.{More}
 use Rattle.rank.specs.Ranked.{ranked_graph}
 use Rattle.ranked.specs.Refused.{MapRefused}
@@ -11,24 +14,30 @@ use Rattle.report.specs.Readings.{ReadsBoth, FirstRefused}
 use Rattle.report.specs.Shown.{refusal_text}
 use Rattle.report.specs.declared.refusals.Refusal.{Refusal}
 use Rattle.report.specs.declared.deciding.Report.{Report}
-use Rattle.verdict.specs.Shown.{verdict_text}
-use Rattle.verdict.specs.Verdicts.{Decides}
-use Rattle.verdict.specs.declared.verdicts.Verdict.{Verdict}
+use Rattle.verdict.specs.Certified.{Certifies}
+use Rattle.verdict.specs.declared.certifying.Certified.{Certified}
 
--- the verdict on the charts that the files tell, in a room of 512 nodes
+-- a verdict on the charts that the files tell, in a room of 512 nodes, and the slip that shows it
+pub record CertifiesBoth (duty rule : List ℕ) (c : Certified) : Type 0 where
+  pub a : Automaton
+  pub b : Automaton
+  pub reads : ReadsBoth duty rule a b
+  pub few_letters : a.letters ≤ 16
+  pub certifies : Certifies a b 512 c
+
+-- the verdict alone
 pub record DecidesBoth (duty rule : List ℕ) (v : Verdict) : Type 0 where
   pub a : Automaton
   pub b : Automaton
   pub reads : ReadsBoth duty rule a b
-  pub decides : Decides a b 512 512 v
+  pub decides : Decides a b 512 v
 
 -- The charts differ in letters, or the rule has more than 6 states, or more than 512 nodes of their ranked graph can be reached.
 abbrev pub BothRefused : Automaton → Automaton → BenchFault → Type 0
-BothRefused a b (bench.Chart e) = ⊥
 BothRefused a b bench.Letters = MapRefused a b bench.Letters
 BothRefused a b bench.States = MapRefused a b bench.States
-BothRefused a b (bench.Search Table) = ⊥
 BothRefused a b (bench.Search Full) = (a.letters ≡ b.letters) × (b.states ≤ 6) × More (ranked_graph a b) 512
+BothRefused a b _ = ⊥
 
 abbrev pub Reports : List ℕ → List ℕ → Report → Type 0
 Reports duty rule r = MatchResult r.0 (DecidesBoth duty rule) (FirstRefused duty rule BothRefused)

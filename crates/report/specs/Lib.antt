@@ -3,3 +3,5 @@ pub mod Sheets
 pub mod Shown
 pub mod Listed
 pub mod Decided
+pub mod Spelled
+pub mod Courses

@@ -1,11 +1,11 @@
 // The verdict on two chart texts.
 ghost use Rattle.std.specs.Prelude.{Some, MatchResult};
 ghost use Rattle.report.specs.Readings.{FirstRefused};
-ghost use Rattle.report.specs.Decided.{BothRefused, DecidesBoth, Reports, report_text};
+ghost use Rattle.report.specs.Decided.{BothRefused, CertifiesBoth, DecidesBoth, Reports, report_text};
 
 use crate::refusals::{Refusal, Side};
 use std::fmt;
-use verdict::{Record, Verdict, decide};
+use verdict::{Certified, Record, Verdict, decide};
 
 // What the program prints.
 #[derive(Clone, Copy, PartialEq, Eq, Debug)]
@@ -22,19 +22,35 @@ impl fmt::Display for Report {
     }
 }
 
-// The most nodes that the program searches.
+// The most nodes that the programs search.
 pub const ROOM: usize = 512;
 
-fn decide_both(duty: &[u8], rule: &[u8]) -> Result<Verdict, Refusal>
-    ensures { MatchResult result (DecidesBoth duty.now rule.now) (FirstRefused duty.now rule.now BothRefused) }
+// The records of a slip table for so many nodes.
+pub const SLIP: usize = 2 * ROOM;
+
+// The verdict on the charts of the two texts, with its slip in the table.
+pub(crate) fn certify_both<'a>(
+    duty: &[u8],
+    rule: &[u8],
+    table: &'a mut [Record; SLIP],
+) -> Result<Certified<'a>, Refusal>
+    ensures { MatchResult result (CertifiesBoth duty.now rule.now) (FirstRefused duty.now rule.now BothRefused) }
 {
     let duty = Side::Duty.read(duty)?;
     let rule = Side::Rule.read(rule)?;
     let mut work = [Record::default(); ROOM];
-    decide(&duty.table(), &rule.table(), ROOM, &mut work).map_err(|fault| Refusal {
+    decide(duty.table(), rule.table(), ROOM, table, &mut work).map_err(|fault| Refusal {
         side: Side::Bench,
         fault,
     })
+}
+
+fn decide_both(duty: &[u8], rule: &[u8]) -> Result<Verdict, Refusal>
+    ensures { MatchResult result (DecidesBoth duty.now rule.now) (FirstRefused duty.now rule.now BothRefused) }
+{
+    let mut table = [Record::default(); SLIP];
+    let certified = certify_both(duty, rule, &mut table)?;
+    Ok(certified.verdict)
 }
 
 // Reads the duty's text, then the rule's, and decides whether the rule takes all that the duty takes.
