@@ -7,6 +7,8 @@ mod benches;
 #[cfg(test)]
 mod counts;
 #[cfg(test)]
+mod courses;
+#[cfg(test)]
 mod parts;
 #[cfg(test)]
 mod samples;
