@@ -21,9 +21,9 @@ fn needs(
 ) -> Result<(), Fail> {
     let duty = Table::new(3, 2, 0b1, duty.0, &duty.1)?;
     let rule = Table::new(3, 2, 0b1, rule.0, &rule.1)?;
-    assert_eq!(rt; told(heap, &duty, &rule, nodes.saturating_sub(1))?, FULL);
-    assert_eq!(rt; told(heap, &duty, &rule, nodes)?, said);
-    assert_eq!(rt; told(heap, &duty, &rule, nodes.saturating_add(1))?, said);
+    assert_eq!(rt; told(heap, duty, rule, nodes.saturating_sub(1))?, FULL);
+    assert_eq!(rt; told(heap, duty, rule, nodes)?, said);
+    assert_eq!(rt; told(heap, duty, rule, nodes.saturating_add(1))?, said);
     Ok(())
 }
 

@@ -23,11 +23,22 @@ fn union(first: bool, second: bool) -> Result<Union<Table<'static>, Table<'stati
 #[test]
 fn unions(rt: HostRuntime) -> Result<(), Fail> {
     let heap = rt.alloc();
-    let (only_a, only_b, each) = (union(true, false)?, union(false, true)?, union(true, true)?);
-    assert_eq!(rt; told(heap, &only_a, &only_b, 14)?, breaks(14));
-    assert_eq!(rt; told(heap, &each, &only_a, 14)?, breaks(14));
-    assert_eq!(rt; told(heap, &only_a, &only_a, 14)?, keeps(10));
-    assert_eq!(rt; told(heap, &only_a, &each, 14)?, keeps(8));
+    assert_eq!(rt;
+        told(heap, union(true, false)?, union(false, true)?, 14)?,
+        breaks(14)
+    );
+    assert_eq!(rt;
+        told(heap, union(true, true)?, union(true, false)?, 14)?,
+        breaks(14)
+    );
+    assert_eq!(rt;
+        told(heap, union(true, false)?, union(true, false)?, 14)?,
+        keeps(10)
+    );
+    assert_eq!(rt;
+        told(heap, union(true, false)?, union(true, true)?, 14)?,
+        keeps(8)
+    );
     Ok(())
 }
 
@@ -35,34 +46,40 @@ fn unions(rt: HostRuntime) -> Result<(), Fail> {
 fn union_and_table(rt: HostRuntime) -> Result<(), Fail> {
     let heap = rt.alloc();
     assert_eq!(rt;
-        told(heap, &union(true, false)?, &table(0b10)?, 14)?,
+        told(heap, union(true, false)?, table(0b10)?, 14)?,
         breaks(14)
     );
     assert_eq!(rt;
-        told(heap, &union(true, false)?, &table(0b11)?, 14)?,
+        told(heap, union(true, false)?, table(0b11)?, 14)?,
         keeps(8)
     );
     assert_eq!(rt;
-        told(heap, &table(0b11)?, &union(true, false)?, 14)?,
+        told(heap, table(0b11)?, union(true, false)?, 14)?,
         breaks(14)
     );
-    assert_eq!(rt;
-        told(heap, &table(0b01)?, &union(true, true)?, 14)?,
-        keeps(8)
-    );
+    assert_eq!(rt; told(heap, table(0b01)?, union(true, true)?, 14)?, keeps(8));
     Ok(())
 }
 
 #[test]
 fn fitted(rt: HostRuntime) -> Result<(), Fail> {
     let heap = rt.alloc();
-    let duty = Fitted::new(table(0b01)?);
     assert_eq!(rt;
-        told(heap, &duty, &Fitted::new(union(false, true)?), 14)?,
+        told(
+            heap,
+            Fitted::new(table(0b01)?),
+            Fitted::new(union(false, true)?),
+            14
+        )?,
         breaks(14)
     );
     assert_eq!(rt;
-        told(heap, &duty, &Fitted::new(union(true, true)?), 14)?,
+        told(
+            heap,
+            Fitted::new(table(0b01)?),
+            Fitted::new(union(true, true)?),
+            14
+        )?,
         keeps(8)
     );
     Ok(())
@@ -74,12 +91,16 @@ fn union_of_7_states(rt: HostRuntime) -> Result<(), Fail> {
     let heap = rt.alloc();
     let three = Table::new(3, 1, 0, 0, &[0; 3])?;
     let four = Table::new(4, 1, 0, 0, &[0; 4])?;
-    let six = Union::new(three, three)?;
-    let seven = Union::new(three, four)?;
-    assert_eq!(rt; told(heap, &seven, &six, 1)?, keeps(0));
-    assert_eq!(rt; told(heap, &six, &seven, 1)?, Err(BenchFault::States));
     assert_eq!(rt;
-        told(heap, &table(0b01)?, &seven, 1)?,
+        told(heap, Union::new(three, four)?, Union::new(three, three)?, 1)?,
+        keeps(0)
+    );
+    assert_eq!(rt;
+        told(heap, Union::new(three, three)?, Union::new(three, four)?, 1)?,
+        Err(BenchFault::States)
+    );
+    assert_eq!(rt;
+        told(heap, table(0b01)?, Union::new(three, four)?, 1)?,
         Err(BenchFault::Letters)
     );
     Ok(())

@@ -2,6 +2,10 @@
 #![tactic(auto)]
 
 #[cfg(test)]
+mod certified;
+#[cfg(test)]
+mod confirmed;
+#[cfg(test)]
 mod counts;
 #[cfg(test)]
 mod examples;

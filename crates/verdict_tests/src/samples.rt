@@ -6,7 +6,7 @@ use verdict::{Kind, Record, Verdict, decide};
 
 pub(crate) type Told = Result<Verdict, BenchFault>;
 
-pub(crate) const TABLE: Told = Err(BenchFault::Search(SearchFault::Table));
+pub(crate) const ROOM: Told = Err(BenchFault::Room);
 
 pub(crate) const FULL: Told = Err(BenchFault::Search(SearchFault::Full));
 
@@ -24,26 +24,29 @@ pub(crate) fn breaks(nodes: usize) -> Told {
     })
 }
 
-// What is said with a table of so many records.
-pub(crate) fn told_with<D: Chart, R: Chart>(
+// What is said with a slip table of so many records, and a work table of so many.
+pub(crate) fn told_with<D: Chart + Drop, R: Chart + Drop>(
     heap: Global,
-    duty: &D,
-    rule: &R,
+    duty: D,
+    rule: R,
     room: usize,
     records: usize,
+    work: usize,
 ) -> Result<Told, AllocError> {
-    let mut work = vec![in heap; Record::default(); records]?;
-    Ok(decide(duty, rule, room, work.as_mut_slice()))
+    let mut table = vec![in heap; Record::default(); records]?;
+    let mut work = vec![in heap; Record::default(); work]?;
+    let told = decide(duty, rule, room, table.as_mut_slice(), work.as_mut_slice());
+    Ok(told.map(|certified| certified.verdict))
 }
 
-// The same with as many records as the room has.
-pub(crate) fn told<D: Chart, R: Chart>(
+// The same with as many records as the room asks for.
+pub(crate) fn told<D: Chart + Drop, R: Chart + Drop>(
     heap: Global,
-    duty: &D,
-    rule: &R,
+    duty: D,
+    rule: R,
     room: usize,
 ) -> Result<Told, AllocError> {
-    told_with(heap, duty, rule, room, room)
+    told_with(heap, duty, rule, room, room.saturating_mul(2), room)
 }
 
 // One state and one letter.
@@ -60,3 +63,12 @@ pub(crate) const LOOP: [u32; 1] = [0b1];
 
 // It leads nowhere.
 pub(crate) const STILL: [u32; 1] = [0b0];
+
+// Records of these nodes, with letter 0 and measure 0.
+pub(crate) fn slip<const N: usize>(nodes: [u64; N]) -> [Record; N] {
+    nodes.map(|node| Record {
+        node,
+        letter: 0,
+        measure: 0,
+    })
+}

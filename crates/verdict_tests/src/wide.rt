@@ -17,16 +17,16 @@ fn ring_of_32(rt: HostRuntime) -> Result<(), Fail> {
     let rows: [u32; 32] = array::from_fn(|p| if p < 31 { 2 << p } else { 1 });
     let duty = Table::new(32, 1, 0b1, 1 << 31, &rows)?;
     assert_eq!(rt;
-        told(heap, &duty, &one_state(0b1, 0b1, &LOOP)?, 127)?,
+        told(heap, duty, one_state(0b1, 0b1, &LOOP)?, 127)?,
         keeps(127)
     );
-    assert_eq!(rt; told(heap, &duty, &one_state(0b1, 0b1, &LOOP)?, 126)?, FULL);
+    assert_eq!(rt; told(heap, duty, one_state(0b1, 0b1, &LOOP)?, 126)?, FULL);
     assert_eq!(rt;
-        told(heap, &duty, &one_state(0b1, 0b0, &LOOP)?, 192)?,
+        told(heap, duty, one_state(0b1, 0b0, &LOOP)?, 192)?,
         breaks(192)
     );
     let every_second = Table::new(2, 1, 0b01, 0b10, &[0b10, 0b01])?;
-    assert_eq!(rt; told(heap, &duty, &every_second, 252)?, keeps(252));
+    assert_eq!(rt; told(heap, duty, every_second, 252)?, keeps(252));
     Ok(())
 }
 
@@ -56,13 +56,13 @@ fn climb_of_32(rt: HostRuntime) -> Result<(), Fail> {
     let rows = climb(31);
     let duty = Table::new(32, 2, 0b1, 1 << 31, &rows)?;
     let again_a = Table::new(2, 2, 0b01, 0b10, &[0b10, 0b01, 0b10, 0b01])?;
-    assert_eq!(rt; told(heap, &duty, &again_a, 512)?, keeps(197));
+    assert_eq!(rt; told(heap, duty, again_a, 512)?, keeps(197));
     let again_b = Table::new(2, 2, 0b01, 0b10, &[0b01, 0b10, 0b01, 0b10])?;
-    assert_eq!(rt; told(heap, &duty, &again_b, 512)?, breaks(317));
+    assert_eq!(rt; told(heap, duty, again_b, 512)?, breaks(317));
     let six = climb(5);
     let rule = Table::new(6, 2, 0b1, 1 << 5, &six)?;
-    assert_eq!(rt; told(heap, &duty, &rule, 508)?, FULL);
-    assert_eq!(rt; told(heap, &duty, &rule, 509)?, keeps(509));
+    assert_eq!(rt; told(heap, duty, rule, 508)?, FULL);
+    assert_eq!(rt; told(heap, duty, rule, 509)?, keeps(509));
     Ok(())
 }
 
@@ -73,14 +73,14 @@ fn ring_of_6(rt: HostRuntime) -> Result<(), Fail> {
     let duty = one_state(0b1, 0b1, &LOOP)?;
     let rows = [0b10, 0b100, 0b1000, 0b10000, 0b100000, 0b1];
     let marked = Table::new(6, 1, 0b1, 0b100000, &rows)?;
-    assert_eq!(rt; told(heap, &duty, &marked, 127)?, keeps(127));
+    assert_eq!(rt; told(heap, duty, marked, 127)?, keeps(127));
     let unmarked = Table::new(6, 1, 0b1, 0b0, &rows)?;
-    assert_eq!(rt; told(heap, &duty, &unmarked, 151)?, breaks(151));
+    assert_eq!(rt; told(heap, duty, unmarked, 151)?, breaks(151));
     Ok(())
 }
 
 // With room for one node less the pair is refused, and with just enough the rule takes all that the duty takes, or not.
-fn needs<D: Chart, R: Chart>(
+fn needs<D: Chart + Copy, R: Chart + Copy>(
     rt: &impl Abort,
     heap: Global,
     duty: &D,
@@ -89,12 +89,12 @@ fn needs<D: Chart, R: Chart>(
     kept: bool,
 ) -> Result<(), Fail> {
     assert_eq!(rt;
-        told(heap, duty, rule, nodes.saturating_sub(1))?,
+        told(heap, *duty, *rule, nodes.saturating_sub(1))?,
         FULL,
         "{nodes}"
     );
     let said = if kept { keeps(nodes) } else { breaks(nodes) };
-    assert_eq!(rt; told(heap, duty, rule, nodes)?, said, "{nodes}");
+    assert_eq!(rt; told(heap, *duty, *rule, nodes)?, said, "{nodes}");
     Ok(())
 }
 

@@ -1,0 +1,81 @@
+// The largest room.
+use crate::samples::{
+    Small, breaks_break, broken, drafted, inspected, kept, passed, slip, verdict,
+};
+use bench::{BreakRule, Kind, Record};
+use fault::BenchFault;
+use std::test::Fail;
+
+// 131,072 records are put, and one more is not.
+#[test]
+fn keep(rt: HostRuntime) -> Result<(), Fail> {
+    let heap = rt.alloc();
+    let mut bench = kept(65536)?;
+    let mut records = vec![in heap; slip([4192])[0]; 131073]?;
+    let mut table = vec![in heap; Record::default(); 131072]?;
+    for (record, other) in records.iter_mut().zip(slip([12288, 12384])) {
+        *record = other;
+    }
+    let said = bench.put(Kind::Keep, 0, records.as_slice(), table.as_mut_slice());
+    assert_eq!(rt; said, Err(BenchFault::Shape));
+    records.pop();
+    let said = inspected(
+        &mut bench,
+        Kind::Keep,
+        0,
+        records.as_slice(),
+        table.as_mut_slice(),
+    );
+    assert_eq!(rt; said, Ok(()));
+    assert_eq!(rt; bench.state(), passed(Kind::Keep, 131072, 0));
+    assert_eq!(rt; bench.release(table.as_slice())?.len(), 131072);
+    Ok(())
+}
+
+// The same with the loop as late as it can be, and in a single record that leads nowhere near itself.
+#[test]
+fn breaks(rt: HostRuntime) -> Result<(), Fail> {
+    let heap = rt.alloc();
+    let mut bench = broken(65536)?;
+    let mut records = vec![in heap; slip([12384])[0]; 131069]?;
+    let mut table = vec![in heap; Record::default(); 131072]?;
+    for record in slip([8224, 8192, 8224]) {
+        records.push(record)?;
+    }
+    for record in records.iter_mut().take(1) {
+        record.node = 12288;
+    }
+    let said = inspected(
+        &mut bench,
+        Kind::Break,
+        131070,
+        records.as_slice(),
+        table.as_mut_slice(),
+    );
+    assert_eq!(rt; said, Ok(()));
+    assert_eq!(rt;
+        bench.release(table.as_slice())?,
+        slip([8192, 8224]).as_slice()
+    );
+    let said = inspected(
+        &mut bench,
+        Kind::Break,
+        131071,
+        records.as_slice(),
+        table.as_mut_slice(),
+    );
+    assert_eq!(rt; said, breaks_break(BreakRule::Next, 131071));
+    assert_eq!(rt; bench.state(), drafted(Kind::Break, 131072, 131071));
+    Ok(())
+}
+
+#[test]
+fn judged(rt: HostRuntime) -> Result<(), Fail> {
+    let heap = rt.alloc();
+    let mut table = vec![in heap; Record::default(); 131072]?;
+    let mut work = vec![in heap; Record::default(); 65536]?;
+    let mut judge = |mut bench: Small| bench.judge(table.as_mut_slice(), work.as_mut_slice());
+    assert_eq!(rt; judge(broken(65536)?), verdict(Kind::Break, 6));
+    assert_eq!(rt; judge(kept(65536)?), verdict(Kind::Keep, 3));
+    Ok(())
+}
