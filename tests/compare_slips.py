@@ -395,16 +395,31 @@ def change_letter(rng, graph, r):
 
 
 def change_measure(rng, graph, r):
-    return r._replace(measure=rng.choice([0, r.measure + 1, max(r.measure, 1) - 1, rng.randrange(4), 2**32 - 1]))
+    more = min(r.measure + 1, 2**32 - 1)
+    return r._replace(measure=rng.choice([0, more, max(r.measure, 1) - 1, rng.randrange(4), 2**32 - 1]))
+
+
+def walk(rng, graph):
+    """A break slip along a walk from a start, up to the first node that comes again; or nothing where it comes to an end."""
+    nodes, letters = [rng.choice(sorted(graph.firsts))], []
+    while graph.told(nodes[-1])[1]:
+        letter, after = rng.choice(sorted(graph.told(nodes[-1])[1]))
+        letters.append(letter)
+        if after in nodes:
+            return Slip("break", nodes.index(after), tuple(Record(v, l, 0) for v, l in zip(nodes, letters)))
+        nodes.append(after)
+    return None
+
+
+WAYS = {"node": 2, "letter": 1, "measure": 1, "drop": 2, "double": 1, "swap": 1, "loop": 1, "kind": 1, "shuffle": 1, "unroll": 1}
+WAYS |= {"cut": 1, "starts": 1, "walk": 1}
 
 
 def changed(rng, graph, slip):
     """The slip with one thing changed."""
     kind, stem, records = slip[0], slip[1], list(slip[2])
     places = range(len(records))
-    way = rng.choice(
-        ["node", "node", "letter", "measure", "drop", "drop", "double", "swap", "loop", "kind", "shuffle", "unroll", "cut", "none"]
-    )
+    (way,) = rng.choices(list(WAYS), list(WAYS.values()))
     if way in ("node", "letter", "measure") and records:
         at = rng.choice(places)
         change = {"node": change_node, "letter": change_letter, "measure": change_measure}[way]
@@ -429,6 +444,10 @@ def changed(rng, graph, slip):
     elif way == "cut":
         records = records[: rng.randint(0, len(records))]
         stem = min(stem, max(len(records), 1) - 1)
+    elif way == "starts":
+        records = [r for r in records if r.node not in graph.firsts]
+    elif way == "walk" and graph.firsts:
+        return walk(rng, graph) or slip
     return Slip(kind, stem, tuple(records))
 
 
@@ -455,13 +474,16 @@ def put_case(rng, graph, slips):
     return Case(graph, room, calls)
 
 
+CALLS = {"judge": 2, "put": 2, "inspect": 3, "release": 2, "clear": 1, "lend": 1, "set": 1, "table": 1}
+
+
 def random_calls(rng, graph, slip):
     """Calls in any order. The table is looked at after each judge, and where records are changed these are records of the slip
     or like them."""
     room = rng.choice([max(graph.count(), 1), max(graph.count(), 1), tight_room(rng, [slip])])
     calls = []
     for _ in range(rng.randint(6, 24)):
-        name = rng.choice(["judge", "judge", "put", "put", "inspect", "inspect", "inspect", "release", "release", "clear", "lend", "set", "table"])
+        (name,) = rng.choices(list(CALLS), list(CALLS.values()))
         if name == "put":
             calls.append((name, damaged(rng, graph, slip)))
         elif name == "lend":

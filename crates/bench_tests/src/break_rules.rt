@@ -1,5 +1,7 @@
 // Each rule of break slips, met and broken.
-use crate::samples::{Answer, breaks_break, broken, drafted, inspected, lasso, passed, slip, used};
+use crate::samples::{
+    Answer, LASSO, USED, breaks_break, broken, drafted, inspected, nodes, passed,
+};
 use bench::{BreakRule, Kind, Record};
 use fault::BenchFault;
 use std::process::Abort;
@@ -13,7 +15,7 @@ fn says(
     answer: Answer,
 ) -> Result<(), BenchFault> {
     let mut bench = broken(3)?;
-    let said = inspected(&mut bench, Kind::Break, stem, records, &mut used::<6>());
+    let said = inspected(&mut bench, Kind::Break, stem, records, &mut [USED; 6]);
     assert_eq!(rt; said, answer);
     let count = records.len();
     let state = match answer {
@@ -27,11 +29,11 @@ fn says(
 // Nodes may stand more than once, and the loop may go round more than once.
 #[test]
 fn met(rt: HostRuntime) -> Result<(), Fail> {
-    says(&rt, 1, &lasso(), Ok(()))?;
-    says(&rt, 1, &slip([12288, 8224, 8192, 8224, 8192]), Ok(()))?;
-    says(&rt, 3, &slip([12288, 8224, 8192, 8224, 8192]), Ok(()))?;
-    says(&rt, 2, &slip([12288, 12384, 8224, 8192]), Ok(()))?;
-    says(&rt, 2, &slip([12288, 8224, 8192, 8224]), Ok(()))?;
+    says(&rt, 1, &LASSO, Ok(()))?;
+    says(&rt, 1, &nodes![12288, 8224, 8192, 8224, 8192], Ok(()))?;
+    says(&rt, 3, &nodes![12288, 8224, 8192, 8224, 8192], Ok(()))?;
+    says(&rt, 2, &nodes![12288, 12384, 8224, 8192], Ok(()))?;
+    says(&rt, 2, &nodes![12288, 8224, 8192, 8224], Ok(()))?;
     Ok(())
 }
 
@@ -41,27 +43,27 @@ fn node(rt: HostRuntime) -> Result<(), Fail> {
     says(
         &rt,
         1,
-        &slip([8256, 8224, 8192]),
+        &nodes![8256, 8224, 8192],
         breaks_break(BreakRule::Node, 0),
     )?;
     says(
         &rt,
         0,
-        &slip([12288 + (1 << 36)]),
+        &nodes![12288 + (1 << 36)],
         breaks_break(BreakRule::Node, 0),
     )?;
     says(
         &rt,
         1,
-        &slip([12288, 8256, 8192]),
+        &nodes![12288, 8256, 8192],
         breaks_break(BreakRule::Next, 0),
     )?;
-    let mut records = lasso();
+    let mut records = LASSO;
     records[1].letter = 1;
     says(&rt, 1, &records, breaks_break(BreakRule::Node, 1))?;
     records[0].letter = 255;
     says(&rt, 1, &records, breaks_break(BreakRule::Node, 0))?;
-    let mut records = lasso();
+    let mut records = LASSO;
     records[2].measure = 1;
     says(&rt, 1, &records, breaks_break(BreakRule::Node, 2))?;
     records[0].measure = u32::MAX;
@@ -75,19 +77,19 @@ fn start(rt: HostRuntime) -> Result<(), Fail> {
     says(
         &rt,
         1,
-        &slip([12384, 8224, 8192]),
+        &nodes![12384, 8224, 8192],
         breaks_break(BreakRule::Start, 0),
     )?;
     says(
         &rt,
         0,
-        &slip([8224, 8192]),
+        &nodes![8224, 8192],
         breaks_break(BreakRule::Start, 0),
     )?;
     says(
         &rt,
         0,
-        &slip([4192, 8192]),
+        &nodes![4192, 8192],
         breaks_break(BreakRule::Start, 0),
     )?;
     Ok(())
@@ -99,18 +101,18 @@ fn next(rt: HostRuntime) -> Result<(), Fail> {
     says(
         &rt,
         1,
-        &slip([12288, 8224, 4192]),
+        &nodes![12288, 8224, 4192],
         breaks_break(BreakRule::Next, 1),
     )?;
     says(
         &rt,
         1,
-        &slip([12288, 8192, 8224]),
+        &nodes![12288, 8192, 8224],
         breaks_break(BreakRule::Next, 0),
     )?;
-    says(&rt, 2, &lasso(), breaks_break(BreakRule::Next, 2))?;
-    says(&rt, 0, &lasso(), breaks_break(BreakRule::Next, 2))?;
-    says(&rt, 0, &slip([12288]), breaks_break(BreakRule::Next, 0))?;
+    says(&rt, 2, &LASSO, breaks_break(BreakRule::Next, 2))?;
+    says(&rt, 0, &LASSO, breaks_break(BreakRule::Next, 2))?;
+    says(&rt, 0, &nodes![12288], breaks_break(BreakRule::Next, 0))?;
     Ok(())
 }
 
@@ -120,19 +122,19 @@ fn mark(rt: HostRuntime) -> Result<(), Fail> {
     says(
         &rt,
         1,
-        &slip([12288, 4192]),
+        &nodes![12288, 4192],
         breaks_break(BreakRule::Mark, 2),
     )?;
     says(
         &rt,
         1,
-        &slip([12288, 12384, 12384]),
+        &nodes![12288, 12384, 12384],
         breaks_break(BreakRule::Mark, 3),
     )?;
     says(
         &rt,
         3,
-        &slip([12288, 8224, 4160, 4192]),
+        &nodes![12288, 8224, 4160, 4192],
         breaks_break(BreakRule::Mark, 4),
     )?;
     Ok(())

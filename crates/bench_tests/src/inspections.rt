@@ -1,5 +1,7 @@
 // A slip is inspected as the table has it, as often as it is asked.
-use crate::samples::{breaks_break, breaks_keep, broken, drafted, kept, lasso, passed, slip, used};
+use crate::samples::{
+    LASSO, USED, breaks_break, breaks_keep, broken, drafted, kept, nodes, passed,
+};
 use bench::{BreakRule, KeepRule, Kind};
 use fault::BenchFault;
 use std::test::Fail;
@@ -7,8 +9,8 @@ use std::test::Fail;
 #[test]
 fn twice(rt: HostRuntime) -> Result<(), Fail> {
     let mut bench = broken(2)?;
-    let mut table = used::<4>();
-    bench.put(Kind::Break, 1, &lasso(), &mut table)?;
+    let mut table = [USED; 4];
+    bench.put(Kind::Break, 1, &LASSO, &mut table)?;
     for _ in 0..2 {
         assert_eq!(rt; bench.inspect(&table), Ok(()));
         assert_eq!(rt; bench.state(), passed(Kind::Break, 3, 1));
@@ -21,8 +23,8 @@ fn twice(rt: HostRuntime) -> Result<(), Fail> {
 #[test]
 fn break_spoilt(rt: HostRuntime) -> Result<(), Fail> {
     let mut bench = broken(6)?;
-    let mut table = used::<12>();
-    bench.put(Kind::Break, 1, &lasso(), &mut table)?;
+    let mut table = [USED; 12];
+    bench.put(Kind::Break, 1, &LASSO, &mut table)?;
     bench.inspect(&table)?;
     table[1].measure = 1;
     assert_eq!(rt; bench.inspect(&table), breaks_break(BreakRule::Node, 1));
@@ -31,15 +33,15 @@ fn break_spoilt(rt: HostRuntime) -> Result<(), Fail> {
     table[1].measure = 0;
     assert_eq!(rt; bench.release(&table).err(), Some(BenchFault::Unpassed));
     assert_eq!(rt; bench.inspect(&table), Ok(()));
-    assert_eq!(rt; bench.release(&table)?, slip([8224, 8192]).as_slice());
+    assert_eq!(rt; bench.release(&table)?, nodes![8224, 8192].as_slice());
     Ok(())
 }
 
 #[test]
 fn keep_spoilt(rt: HostRuntime) -> Result<(), Fail> {
     let mut bench = kept(3)?;
-    let mut table = used::<6>();
-    bench.judge(&mut table, &mut used::<3>())?;
+    let mut table = [USED; 6];
+    bench.judge(&mut table, &mut [USED; 3])?;
     bench.inspect(&table)?;
     table[2].letter = 1;
     assert_eq!(rt; bench.inspect(&table), breaks_keep(KeepRule::Node, 2));
@@ -55,12 +57,12 @@ fn keep_spoilt(rt: HostRuntime) -> Result<(), Fail> {
 #[test]
 fn rest_changed(rt: HostRuntime) -> Result<(), Fail> {
     let mut bench = broken(6)?;
-    let mut table = used::<12>();
-    bench.put(Kind::Break, 1, &lasso(), &mut table)?;
+    let mut table = [USED; 12];
+    bench.put(Kind::Break, 1, &LASSO, &mut table)?;
     bench.inspect(&table)?;
-    table[3] = slip([12288])[0];
-    table[11] = slip([8192])[0];
+    table[3] = nodes![12288][0];
+    table[11] = nodes![8192][0];
     assert_eq!(rt; bench.inspect(&table), Ok(()));
-    assert_eq!(rt; bench.release(&table)?, slip([8224, 8192]).as_slice());
+    assert_eq!(rt; bench.release(&table)?, nodes![8224, 8192].as_slice());
     Ok(())
 }

@@ -1,6 +1,6 @@
 // The largest room.
 use crate::samples::{
-    Small, breaks_break, broken, drafted, inspected, kept, passed, slip, verdict,
+    Small, breaks_break, broken, drafted, inspected, kept, nodes, passed, verdict,
 };
 use bench::{BreakRule, Kind, Record};
 use fault::BenchFault;
@@ -11,9 +11,9 @@ use std::test::Fail;
 fn keep(rt: HostRuntime) -> Result<(), Fail> {
     let heap = rt.alloc();
     let mut bench = kept(65536)?;
-    let mut records = vec![in heap; slip([4192])[0]; 131073]?;
+    let mut records = vec![in heap; nodes![4192][0]; 131073]?;
     let mut table = vec![in heap; Record::default(); 131072]?;
-    for (record, other) in records.iter_mut().zip(slip([12288, 12384])) {
+    for (record, other) in records.iter_mut().zip(nodes![12288, 12384]) {
         *record = other;
     }
     let said = bench.put(Kind::Keep, 0, records.as_slice(), table.as_mut_slice());
@@ -32,14 +32,14 @@ fn keep(rt: HostRuntime) -> Result<(), Fail> {
     Ok(())
 }
 
-// The same with the loop as late as it can be, and in a single record that leads nowhere near itself.
+// The same with a loop of the last two records, and of the last alone, which does not lead to itself.
 #[test]
 fn breaks(rt: HostRuntime) -> Result<(), Fail> {
     let heap = rt.alloc();
     let mut bench = broken(65536)?;
-    let mut records = vec![in heap; slip([12384])[0]; 131069]?;
+    let mut records = vec![in heap; nodes![12384][0]; 131069]?;
     let mut table = vec![in heap; Record::default(); 131072]?;
-    for record in slip([8224, 8192, 8224]) {
+    for record in nodes![8224, 8192, 8224] {
         records.push(record)?;
     }
     for record in records.iter_mut().take(1) {
@@ -55,7 +55,7 @@ fn breaks(rt: HostRuntime) -> Result<(), Fail> {
     assert_eq!(rt; said, Ok(()));
     assert_eq!(rt;
         bench.release(table.as_slice())?,
-        slip([8192, 8224]).as_slice()
+        nodes![8192, 8224].as_slice()
     );
     let said = inspected(
         &mut bench,

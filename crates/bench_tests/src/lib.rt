@@ -1,5 +1,5 @@
-// Examples of what a bench answers and leaves, with answers worked out by hand. They stand in a crate of their own since tests are
-// proved too.
+// Examples of what a bench answers and leaves, with answers worked out by hand. They stand in a crate of their own since tests
+// are proved too.
 #![tactic(auto)]
 
 #[cfg(test)]

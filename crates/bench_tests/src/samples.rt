@@ -2,7 +2,24 @@
 use bench::{Bench, Breach, BreakRule, Form, KeepRule, Kind, Record, Rule, State, Verdict};
 use chart::Table;
 use fault::BenchFault;
-use std::array;
+
+// Records of these nodes and measures, with letter 0.
+macro_rules! measured {
+    ($(($node:expr, $measure:expr)),* $(,)?) => {
+        [$(bench::Record { node: $node, letter: 0, measure: $measure }),*]
+    };
+}
+
+pub(crate) use measured;
+
+// Records of these nodes, with letter 0 and measure 0.
+macro_rules! nodes {
+    ($($node:expr),* $(,)?) => {
+        [$(bench::Record { node: $node, letter: 0, measure: 0 }),*]
+    };
+}
+
+pub(crate) use nodes;
 
 pub(crate) type Small = Bench<Table<'static>, Table<'static>>;
 
@@ -19,8 +36,8 @@ pub(crate) fn broken(room: usize) -> Result<Small, BenchFault> {
     Bench::new(duty, rule, room)
 }
 
-// A marked state with a loop, twice: a keep with 3 nodes. The start 12288 leads to 4192 and 12384, and so does 12384; 4192 leads to
-// itself. None is marked, and 8192 is no node.
+// A marked state with a loop, twice: a keep with 3 nodes. The start 12288 leads to 4192 and 12384, and so does 12384; 4192 leads
+// to itself. None is marked, and 8192 is no node.
 pub(crate) fn kept(room: usize) -> Result<Small, BenchFault> {
     let chart = Table::new(1, 1, 0b1, 0b1, &LOOP)?;
     Bench::new(chart, chart, room)
@@ -45,7 +62,7 @@ pub(crate) fn falling(room: usize) -> Result<Small, BenchFault> {
 // The start 20480 leads to 65696, 196768 and 327840. 65696 leads to 4192 and that one to 65696. 196768 leads to 4192, 8224 and
 // 12384; 327840 to these, 16416 and 20576. 8224 leads to 65664, and 65664 to 4192. 16416 leads to 65664 and 196736, and 196736
 // to 4192, 8224 and 12384. 12384 leads to 65696 and 196768, and 20576 to these and 327840.
-pub(crate) const FALLING: [(u64, u32); 11] = [
+pub(crate) const FALLING: [Record; 11] = measured![
     (20480, 2),
     (65696, 0),
     (196768, 1),
@@ -59,33 +76,15 @@ pub(crate) const FALLING: [(u64, u32); 11] = [
     (196736, 1),
 ];
 
-// Records of these nodes and measures, with letter 0.
-pub(crate) fn measured<const N: usize>(parts: [(u64, u32); N]) -> [Record; N] {
-    parts.map(|(node, measure)| Record {
-        node,
-        letter: 0,
-        measure,
-    })
-}
-
-// Records of these nodes, with letter 0 and measure 0.
-pub(crate) fn slip<const N: usize>(nodes: [u64; N]) -> [Record; N] {
-    nodes.map(|node| measured([(node, 0)])[0])
-}
-
 // A break slip over the first bench, with loop place 1.
-pub(crate) fn lasso() -> [Record; 3] {
-    slip([12288, 8224, 8192])
-}
+pub(crate) const LASSO: [Record; 3] = nodes![12288, 8224, 8192];
 
-// A table that has been in use, with another record at each place.
-pub(crate) fn used<const N: usize>() -> [Record; N] {
-    array::from_fn(|place| Record {
-        node: place as u64,
-        letter: 200,
-        measure: 77,
-    })
-}
+// A record of a table that has been in use.
+pub(crate) const USED: Record = Record {
+    node: 7,
+    letter: 200,
+    measure: 77,
+};
 
 pub(crate) fn form(kind: Kind, count: usize, stem: usize) -> Form {
     Form { kind, count, stem }

@@ -13,8 +13,8 @@ fn tells(rt: &impl Abort, heap: Global, duty: &str, rule: &str, printed: &str) -
     Ok(())
 }
 
-// The duty takes the word of a without end, and no other; the rule takes none. Any stem and loop of that letter tell the word,
-// and a step from the unmarked start and two more round a marked node are the fewest.
+// The duty takes a a a .. alone, and the rule takes nothing. Their ranked graph has one lasso through a marked node that passes no
+// node twice: a step to the marked node, and two round it.
 #[test]
 fn one_letter(rt: HostRuntime) -> Result<(), Fail> {
     tells(&rt, rt.alloc(), MARKED, UNMARKED, "stem loop\na aa\n")
@@ -22,14 +22,20 @@ fn one_letter(rt: HostRuntime) -> Result<(), Fail> {
 
 // The duty takes one word, a p p p .., so a is the stem's first letter, and every other letter is p.
 #[test]
-fn last_letter(rt: HostRuntime) -> Result<(), Fail> {
-    tells(
-        &rt,
-        rt.alloc(),
-        "letters\n16\nstate start mark\n0 > .\n1 . *\nfrom by to\n0 a 1\n1 p 1\n",
-        "letters\n16\nstate start mark\n0 > .\nfrom by to\n0 # 0\n",
-        "stem loop\nap pp\n",
-    )
+fn letter_once(rt: HostRuntime) -> Result<(), Fail> {
+    let duty = b"letters\n16\nstate start mark\n0 > .\n1 . *\nfrom by to\n0 a 1\n1 p 1\n";
+    let rule = b"letters\n16\nstate start mark\n0 > .\nfrom by to\n0 # 0\n";
+    let mut table = [Record::default(); SLIP];
+    let CourseReport(Ok(Told::Broken(course))) = course_of_texts(duty, rule, &mut table) else {
+        return Err("no course")?;
+    };
+    assert_eq!(rt; course.stem.records.is_empty(), false);
+    let records = course.stem.records.iter().chain(course.looped.records);
+    for (place, record) in records.enumerate() {
+        let letter = if place == 0 { 0 } else { 15 };
+        assert_eq!(rt; record.letter, letter);
+    }
+    Ok(())
 }
 
 // The duty takes one word, a b a b .., so the letters are a and b in turn, and those of the loop even in number.
@@ -99,19 +105,19 @@ fn refused_on_the_bench(rt: HostRuntime) -> Result<(), Fail> {
     )
 }
 
-// A stem may have no letter.
+// A stem may have no letter. The first of the 16 letters is a, the last is p.
 #[test]
 fn letters(rt: HostRuntime) -> Result<(), Fail> {
     let heap = rt.alloc();
     let none = Letters { records: &[] }.to_string(heap)?;
     assert_eq!(rt; none.as_str(), "-");
-    let b = Record {
+    let last = Record {
         node: 1,
-        letter: 1,
-        measure: 0,
+        letter: 15,
+        measure: 2,
     };
-    let word = [Record::default(), b];
+    let word = [Record::default(), last];
     let both = Letters { records: &word }.to_string(heap)?;
-    assert_eq!(rt; both.as_str(), "ab");
+    assert_eq!(rt; both.as_str(), "ap");
     Ok(())
 }

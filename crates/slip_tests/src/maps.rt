@@ -152,5 +152,12 @@ fn greatest_measures(rt: HostRuntime) {
         &[(0, 0, most - 1), (1, 0, most)],
         Some((NEXT, 0)),
     );
-    says(&rt, &marked, keep, 0, &[(0, 0, 0), (1, 0, 0)], Some((NEXT, 0)));
+    says(
+        &rt,
+        &marked,
+        keep,
+        0,
+        &[(0, 0, 0), (1, 0, 0)],
+        Some((NEXT, 0)),
+    );
 }

@@ -1,5 +1,5 @@
 // The slip that comes with a verdict.
-use crate::samples::{LOOP, one_state, slip};
+use crate::samples::{LOOP, nodes, one_state};
 use chart::Table;
 use std::test::Fail;
 use verdict::{Kind, Record, confirm, decide};
@@ -11,9 +11,9 @@ fn keep(rt: HostRuntime) -> Result<(), Fail> {
     let mut table = [Record::default(); 6];
     let mut work = [Record::default(); 3];
     let certified = decide(marked, marked, 3, &mut table, &mut work)?;
-    assert_eq!(rt; certified.stem, slip([]).as_slice());
+    assert_eq!(rt; certified.stem.len(), 0);
     assert_eq!(rt; certified.released.len(), 3);
-    for record in slip([12288, 12384, 4192]) {
+    for record in nodes![12288, 12384, 4192] {
         assert!(rt; certified.released.contains(&record), "{}", record.node);
     }
     Ok(())
@@ -27,10 +27,10 @@ fn breaks(rt: HostRuntime) -> Result<(), Fail> {
     let mut table = [Record::default(); 12];
     let mut work = [Record::default(); 6];
     let certified = decide(marked, unmarked, 6, &mut table, &mut work)?;
-    for record in slip([8224, 8192]) {
+    for record in nodes![8224, 8192] {
         assert!(rt; certified.released.contains(&record), "{}", record.node);
     }
-    assert!(rt; certified.stem.contains(&slip([12288])[0]));
+    assert!(rt; certified.stem.contains(&nodes![12288][0]));
     Ok(())
 }
 

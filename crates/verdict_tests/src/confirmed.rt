@@ -1,6 +1,6 @@
-// Slips by hand. Where both charts are a marked state with a loop, 12288 is the start, it and 12384 lead to 12384 and 4192, and 4192
-// to itself. Where the rule is unmarked, 12288 leads to 8224 too, which is marked and leads to 8192, and that one to 8224.
-use crate::samples::{LOOP, one_state, slip};
+// Slips by hand. Where both charts are a marked state with a loop, the start 12288 and 12384 lead to 12384 and 4192, and 4192 to
+// itself. Where the rule is unmarked, 12288 leads to 8224 too, which is marked and leads to 8192, and that one to 8224.
+use crate::samples::{LOOP, nodes, one_state};
 use chart::{Fitted, Table, Union};
 use fault::{BenchFault, ChartFault};
 use rules::{Breach, BreakRule, KeepRule, Rule};
@@ -18,7 +18,7 @@ fn unmarked() -> Result<Table<'static>, ChartFault> {
 // A passed slip hands out its loop. The rest of the table stays as it was.
 #[test]
 fn breaks(rt: HostRuntime) -> Result<(), Fail> {
-    let records = slip([12288, 8224, 8192]);
+    let records = nodes![12288, 8224, 8192];
     let used = Record {
         node: 7,
         letter: 3,
@@ -34,7 +34,7 @@ fn breaks(rt: HostRuntime) -> Result<(), Fail> {
         &records,
         &mut table,
     )?;
-    assert_eq!(rt; out, slip([8224, 8192]).as_slice());
+    assert_eq!(rt; out, nodes![8224, 8192].as_slice());
     assert_eq!(rt; table, [records[0], records[1], records[2], used]);
     Ok(())
 }
@@ -42,7 +42,7 @@ fn breaks(rt: HostRuntime) -> Result<(), Fail> {
 // A union as the duty, and a fitted chart as the rule. All of a keep slip is handed out.
 #[test]
 fn keeps(rt: HostRuntime) -> Result<(), Fail> {
-    let records = slip([4192, 12384, 12288, 12288]);
+    let records = nodes![4192, 12384, 12288, 12288];
     let silent = one_state(0b0, 0b0, &LOOP)?;
     let duty = Union::new(marked()?, silent)?;
     let rule = Fitted::new(marked()?);
@@ -64,9 +64,9 @@ fn told(kind: Kind, stem: usize, records: &[Record]) -> Result<Told, ChartFault>
 #[test]
 fn shapes(rt: HostRuntime) -> Result<(), Fail> {
     let shape = Err(BenchFault::Shape);
-    let five = slip([12288, 12384, 12384, 8224, 8192]);
+    let five = nodes![12288, 12384, 12384, 8224, 8192];
     assert_eq!(rt; told(Kind::Break, 3, &five)?, shape);
-    let three = slip([12288, 8224, 8192]);
+    let three = nodes![12288, 8224, 8192];
     assert_eq!(rt; told(Kind::Break, 1, &three)?, Ok(2));
     assert_eq!(rt; told(Kind::Break, 3, &three)?, shape);
     assert_eq!(rt; told(Kind::Break, 0, &[])?, shape);
@@ -80,7 +80,7 @@ fn breaches(rt: HostRuntime) -> Result<(), Fail> {
         rule: Rule::Break(BreakRule::Next),
         place: 2,
     };
-    let three = slip([12288, 8224, 8192]);
+    let three = nodes![12288, 8224, 8192];
     assert_eq!(rt;
         told(Kind::Break, 2, &three)?,
         Err(BenchFault::Broken(last))

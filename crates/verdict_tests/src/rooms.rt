@@ -40,8 +40,8 @@ fn one_node_or_none(rt: HostRuntime) -> Result<(), Fail> {
     Ok(())
 }
 
-// The work table or the slip table is one record short or long, or both are. They are refused though the nodes would fit, and though they
-// would not.
+// The work table or the slip table is one record short or long, or both are. They are refused though the nodes would fit, and
+// though they would not.
 #[test]
 fn other_tables(rt: HostRuntime) -> Result<(), Fail> {
     let heap = rt.alloc();
@@ -110,14 +110,13 @@ fn order(rt: HostRuntime) -> Result<(), Fail> {
 // There are 3 nodes: with a rank of the start, and then with none and with the turn or without it.
 #[test]
 fn order_with_three_nodes(rt: HostRuntime) -> Result<(), Fail> {
-    let mut table = [Record::default(); 6];
-    let mut work = [Record::default(); 3];
-    assert_eq!(rt; said(6, 2, 1, &mut table[..2], &mut work)?, ROOM);
-    assert_eq!(rt; said(6, 2, 1, &mut table, &mut work[..1])?, ROOM);
-    assert_eq!(rt; said(6, 2, 3, &mut table, &mut work[..2])?, ROOM);
-    assert_eq!(rt; said(6, 2, 3, &mut table[..4], &mut work)?, ROOM);
-    assert_eq!(rt; said(6, 2, 2, &mut table[..4], &mut work[..2])?, FULL);
-    assert_eq!(rt; said(6, 2, 3, &mut table, &mut work)?, breaks(3));
+    let blank = Record::default();
+    assert_eq!(rt; said(6, 2, 1, &mut [blank; 2], &mut [blank; 3])?, ROOM);
+    assert_eq!(rt; said(6, 2, 1, &mut [blank; 6], &mut [blank; 1])?, ROOM);
+    assert_eq!(rt; said(6, 2, 3, &mut [blank; 6], &mut [blank; 2])?, ROOM);
+    assert_eq!(rt; said(6, 2, 3, &mut [blank; 4], &mut [blank; 3])?, ROOM);
+    assert_eq!(rt; said(6, 2, 2, &mut [blank; 4], &mut [blank; 2])?, FULL);
+    assert_eq!(rt; said(6, 2, 3, &mut [blank; 6], &mut [blank; 3])?, breaks(3));
     Ok(())
 }
 

@@ -65,10 +65,10 @@ pub(crate) const LOOP: [u32; 1] = [0b1];
 pub(crate) const STILL: [u32; 1] = [0b0];
 
 // Records of these nodes, with letter 0 and measure 0.
-pub(crate) fn slip<const N: usize>(nodes: [u64; N]) -> [Record; N] {
-    nodes.map(|node| Record {
-        node,
-        letter: 0,
-        measure: 0,
-    })
+macro_rules! nodes {
+    ($($node:expr),* $(,)?) => {
+        [$(verdict::Record { node: $node, letter: 0, measure: 0 }),*]
+    };
 }
+
+pub(crate) use nodes;
