@@ -380,14 +380,16 @@ def judged_slip(case, lines):
 
 
 def change_node(rng, graph, r):
+    """One part of the number is changed, or one bit, or it is another node's, or nearly the same."""
+    q = rng.randrange(graph.rule.states)
+    low, size = rng.choice([(0, 5), (5, 1), (6 + q, 1), (12 + 4 * q, 4), (12 + 4 * q, 4), (rng.randrange(64), 1)])
     kind = rng.randrange(4)
-    if kind == 0:
-        return r._replace(node=r.node ^ 1 << rng.randrange(36))
-    if kind == 1:
-        return r._replace(node=r.node ^ 1 << rng.randrange(64))
-    if kind == 2 and graph.edges:
+    if kind == 0 and graph.edges:
         return r._replace(node=number(rng.choice(list(graph.edges))))
-    return r._replace(node=r.node + rng.choice([-1, 1, 32, 64, 4096]) & 2**64 - 1)
+    if kind == 1:
+        return r._replace(node=r.node + rng.choice([-1, 1, 32, 64, 4096]) & 2**64 - 1)
+    part = r.node >> low & 2**size - 1
+    return r._replace(node=r.node ^ (part ^ rng.randrange(2**size)) << low)
 
 
 def change_letter(rng, graph, r):
@@ -400,10 +402,13 @@ def change_measure(rng, graph, r):
 
 
 def walk(rng, graph):
-    """A break slip along a walk from a start, up to the first node that comes again; or nothing where it comes to an end."""
+    """A break slip along a walk from a start, by marked nodes where it can, up to the first node that comes again; or nothing
+    where it comes to an end."""
     nodes, letters = [rng.choice(sorted(graph.firsts))], []
     while graph.told(nodes[-1])[1]:
-        letter, after = rng.choice(sorted(graph.told(nodes[-1])[1]))
+        ways = sorted(graph.told(nodes[-1])[1])
+        marked = [(letter, w) for letter, w in ways if graph.told(w)[0] and w not in nodes]
+        letter, after = rng.choice(marked or ways)
         letters.append(letter)
         if after in nodes:
             return Slip("break", nodes.index(after), tuple(Record(v, l, 0) for v, l in zip(nodes, letters)))
@@ -412,7 +417,7 @@ def walk(rng, graph):
 
 
 WAYS = {"node": 2, "letter": 1, "measure": 1, "drop": 2, "double": 1, "swap": 1, "loop": 1, "kind": 1, "shuffle": 1, "unroll": 1}
-WAYS |= {"cut": 1, "starts": 1, "walk": 1}
+WAYS |= {"cut": 1, "starts": 1, "walk": 2, "stranger": 2}
 
 
 def changed(rng, graph, slip):
@@ -446,6 +451,8 @@ def changed(rng, graph, slip):
         stem = min(stem, max(len(records), 1) - 1)
     elif way == "starts":
         records = [r for r in records if r.node not in graph.firsts]
+    elif way == "stranger" and records:
+        records.insert(rng.choice([0, rng.randint(0, len(records))]), change_node(rng, graph, rng.choice(records)))
     elif way == "walk" and graph.firsts:
         return walk(rng, graph) or slip
     return Slip(kind, stem, tuple(records))
@@ -468,6 +475,11 @@ def put_case(rng, graph, slips):
     calls = []
     for slip in slips:
         calls += [("put", slip), ("inspect",), ("release",)]
+        if graph.fits(slip, room) and slip.records and rng.random() < 0.3:
+            at = rng.randrange(len(slip.records))
+            change = rng.choice([change_node, change_letter, change_measure])
+            calls += [("set", at, change(rng, graph, slip.records[at])), ("inspect",), ("release",)]
+            calls += [("set", at, slip.records[at]), ("release",), ("inspect",), ("release",)]
         if rng.random() < 0.2:
             calls.append(("table",))
         calls.append(("clear",))

@@ -1,8 +1,10 @@
-// Tells how long the ranked graphs of the pairs take: to make the map, to search it, and to ask it for each edge.
+// Tells how long the ranked graphs of the pairs take: to make the map, to search it, to ask it for each edge, and, on a bench, to
+// judge the pair and to inspect the slip.
 use crate::charts::{PAIRS, Pair, Sheet};
 use crate::dense::DENSE;
 use crate::walks::count_edges;
 use anyhow::anyhow;
+use bench::{Bench, State};
 use chart::Table;
 use lasso::NO_WORD;
 use ranked::RankedMap;
@@ -67,6 +69,32 @@ fn walk(rt: &HostRuntime, map: &RankedMap, nodes: &[Record]) -> anyhow::Result<(
     Ok((edges, spent))
 }
 
+// The records of the judged slip, and the microseconds that it took to judge the pair and to inspect the slip, on a bench with just
+// as much room as the nodes need.
+fn judge(rt: &HostRuntime, pair: &Pair, nodes: usize) -> anyhow::Result<(usize, u128, u128)> {
+    let heap = rt.alloc();
+    let mut bench = Bench::new(table(&pair.duty)?, table(&pair.rule)?, nodes)
+        .map_err(|_| anyhow!("the pair is refused"))?;
+    let mut slip = vec![in heap; Record::default(); 2 * nodes]?;
+    let mut work = vec![in heap; Record::default(); nodes]?;
+    let begun = Instant::now(rt)?;
+    let judged = bench.judge(slip.as_mut_slice(), work.as_mut_slice());
+    let judging = begun.elapsed(rt)?.as_micros();
+    judged.map_err(|_| anyhow!("the pair is not judged"))?;
+    let begun = Instant::now(rt)?;
+    let inspected = bench.inspect(slip.as_slice());
+    let inspecting = begun.elapsed(rt)?.as_micros();
+    inspected.map_err(|_| anyhow!("the slip does not pass"))?;
+    Ok((count_of(bench.state()), judging, inspecting))
+}
+
+fn count_of(state: State) -> usize {
+    match state {
+        State::Empty => 0,
+        State::Drafted(form) | State::Passed(form) => form.count,
+    }
+}
+
 // A pair's line. The search has a table of 65,536 records.
 fn time(rt: &HostRuntime, pair: &Pair) -> anyhow::Result<()> {
     let (map, making) = make(rt, pair)?;
@@ -74,15 +102,16 @@ fn time(rt: &HostRuntime, pair: &Pair) -> anyhow::Result<()> {
     let (found, searching) = search(rt, &map, work.as_mut_slice())?;
     let nodes = work.get(..found.count).unwrap_or_default();
     let (edges, walking) = walk(rt, &map, nodes)?;
+    let (records, judging, inspecting) = judge(rt, pair, found.count)?;
     let name = pair.name;
     let count = found.count;
     let marked = if found.witness.is_some() { "yes" } else { "no" };
-    println!(rt; "{name} {count} {edges} {marked} {making} {searching} {walking}")?;
+    println!(rt; "{name} {count} {edges} {marked} {making} {searching} {walking} {judging} {records} {inspecting}")?;
     Ok(())
 }
 
 pub(crate) fn figures(rt: &HostRuntime) -> anyhow::Result<()> {
-    println!(rt; "graph nodes edges marked-cycle map-us search-us walk-us")?;
+    println!(rt; "graph nodes edges marked-cycle map-us search-us walk-us judge-us records inspect-us")?;
     for pair in &DENSE {
         time(rt, pair)?;
     }

@@ -1,6 +1,6 @@
 // The lines of a case.
 use crate::desks::{Desk, write_refusal};
-use crate::numbers::{Sheet, read_numbers};
+use crate::figures::{Sheet, read_numbers};
 use anyhow::Context;
 use bench::Bench;
 use std::alloc::Global;

@@ -1,5 +1,5 @@
 // A bench and its tables, and the calls on it.
-use crate::numbers::read_records;
+use crate::figures::read_records;
 use anyhow::{Context, bail};
 use bench::{Bench, Form, Kind, Record, State};
 use chart::Table;

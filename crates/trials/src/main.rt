@@ -20,7 +20,7 @@
 
 mod cases;
 mod desks;
-mod numbers;
+mod figures;
 
 use std::io::{self, BufRead, BufReader, BufWriter, Write};
 
