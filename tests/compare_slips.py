@@ -264,7 +264,7 @@ class Bench:
         if breach:
             self.leave("drafted", self.form)
             self.seen[f"{self.form[0]} {breach[1]}"] += 1
-            return f"refused 14 {breach[0]} {breach[1]}"
+            return f"refused 14 {breach[0]} {self.form[0]} {breach[1]}"
         self.leave("passed", self.form)
         self.seen[f"passed {self.form[0]}"] += 1
         return "done"

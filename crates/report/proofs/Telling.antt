@@ -21,13 +21,11 @@ use Rattle.verdict.specs.declared.certifying.Certified.{Certified}
 abbrev pub Shown : Automaton → Automaton → List Record → List Record → Type 0
 Shown a b stem looped = ShowsFor a b Break (length stem) (stem ++ looped)
 
-pub break_shown :
-    (a b : Automaton) (c : Certified) → Certifies a b 512 c → c.verdict.kind ≡ Break → Shown a b c.stem.now c.released.now
+pub break_shown : (a b : Automaton) (c : Certified) → Certifies a b 512 c → c.verdict.kind ≡ Break → Shown a b c.stem.now c.released.now
 break_shown a b c h e = subst (λ (k : Kind). ShowsFor a b k (length c.stem.now) (c.stem.now ++ c.released.now)) e h.shows
 
 -- The letters of a word are known to be a chart's.
-pub letters_known :
-    (n : ℕ) (rs : List Record) → n < 17 → ((k : ℕ) → k < length (letters rs) → get_or (letters rs) k 0 < n) → Known rs
+pub letters_known : (n : ℕ) (rs : List Record) → n < 17 → ((k : ℕ) → k < length (letters rs) → get_or (letters rs) k 0 < n) → Known rs
 letters_known n rs few known k lt =
     let long : length (letters rs) ≡ length rs = length-map rs (λ (r : Record). r.letter) in
     let same : get_or (letters rs) k 0 ≡ (get_or rs k blank).letter = get_or-map (λ (r : Record). r.letter) rs k blank 0 lt in
@@ -38,9 +36,7 @@ pub lettered : (duty rule : List ℕ) (c : Certified) → CertifiesBoth duty rul
 lettered duty rule c h e =
     letters_known h.a.letters (c.stem.now ++ c.released.now) (omega arith) (break_shown h.a h.b c h.certifies e).0.known
 
-pub if_lettered :
-    (duty rule : List ℕ) (P : Refusal → Type 0) (r : Result Certified Refusal) → MatchResult r (CertifiesBoth duty rule) P
-    → IfOk r Lettered
+pub if_lettered : (duty rule : List ℕ) (P : Refusal → Type 0) (r : Result Certified Refusal) → MatchResult r (CertifiesBoth duty rule) P → IfOk r Lettered
 if_lettered duty rule P (Ok c) h = lettered duty rule c h
 if_lettered duty rule P (Err e) h = tt
 

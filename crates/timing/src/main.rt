@@ -1,4 +1,4 @@
-// Tells how long searches take. Run it as `out/timing figures` in this crate's folder, once `rt run` has made it. Without
+// Tells how long searches, judging and inspecting take. Run it as `out/timing figures` in this crate's folder, once `rt run` has made it. Without
 // that word it prints nothing, since figures differ from run to run.
 #![tactic(auto)]
 

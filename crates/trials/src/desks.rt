@@ -33,7 +33,7 @@ fn used(heap: Global, count: usize) -> anyhow::Result<Vec<Record>> {
 pub(crate) fn write_refusal<W: Write>(out: &mut W, fault: BenchFault) -> io::Result<()> {
     write!(out, "refused {} {}", fault.number(), fault.place())?;
     if let BenchFault::Broken(breach) = fault {
-        write!(out, " {}", breach.rule.number())?;
+        write!(out, " {} {}", breach.rule.kind(), breach.rule.number())?;
     }
     Ok(())
 }
