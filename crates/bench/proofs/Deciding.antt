@@ -60,19 +60,24 @@ broken : (a b : Automaton) (k : Kind) → IsVerdict a b k → k ≡ Break → Fo
 broken a b Break f e = f
 broken a b Keep all e = absurd (cc)
 
+-- a kind that is told of a duty and a rule, and a count, are the verdict
+pub told_decides : (a b : Automaton) (room : ℕ) (k : Kind) (n : ℕ) → n ≤ room → Count (ranked_graph a b) n → IsVerdict a b k
+    → Decides a b room (record { kind = k; nodes = n })
+told_decides a b room k n fits count told =
+    record {
+      count = count;
+      fits = fits;
+      breaks = breaks_exactly a b k told;
+      keeps = keeps_exactly a b k told;
+      word = broken a b k told;
+    }
+
 pub survey_decides : (a b : Automaton) → Charts a b → (work : List Record) (found : Findings) → Surveyed (ranked_graph a b) work found
     → Decides a b (length work) (verdict_of found)
 survey_decides a b charts work found s =
     let count = collected_count (ranked_graph a b) found.count work s.collected in
-    let told =
-    told_verdict a b charts found.count (omega (arith, s.collected.fits, s.allowed.few_records)) count work found.witness s.told in
-    record {
-      count = count;
-      fits = s.collected.fits;
-      breaks = breaks_exactly a b (kind_of found.witness) told;
-      keeps = keeps_exactly a b (kind_of found.witness) told;
-      word = broken a b (kind_of found.witness) told;
-    }
+    told_decides a b (length work) (kind_of found.witness) found.count s.collected.fits count
+    (told_verdict a b charts found.count (omega (arith, s.collected.fits, s.allowed.few_records)) count work found.witness s.told)
 
 -- what was searched is the ranked graph of two charts that mean the same
 pub search_tells : (a b a' b' : Automaton) → a' ≡ a → b' ≡ b → Charts a b → (room n : ℕ) → n ≡ room → (work : List Record) → length work ≡ n

@@ -106,8 +106,9 @@ module _ {D R : Type 0} (meaning_d : D → Automaton) (meaning_r : R → Automat
               (tells, after, led_sound a b room s' table' after);
           other =
               λ a b room mine unsized led.
-              led_on a b room mine led mine
-              (subst (λ x. History a b room x mine) (sym (kept a b room (told Tells t a b room mine led) unsized)) led.history);
+              let same_state = kept a b room (told Tells t a b room mine led) unsized in
+              let after = led_on a b room mine led mine (subst (λ x. History a b room x mine) (sym same_state) led.history) in
+              (after, led_sound a b room s' mine after);
         }
 
   pub law_clear : (s s' : Bench D R) → SameBench s s' → s'.state ≡ Empty → (a b : Automaton) (room : ℕ) (table : List Record)

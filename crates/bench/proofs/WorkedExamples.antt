@@ -40,7 +40,7 @@ use Rattle.bench.specs.Examples.{Example, Holds, Told, verdict, full, passes, re
 use Rattle.bench.specs.Examples as here
 use Rattle.bench.specs.Slips.{Fits}
 use Rattle.bench.specs.Verdicts.{IsVerdict}
-use Rattle.bench.proofs.Deciding.{cycle_forbidden}
+use Rattle.bench.proofs.Deciding.{cycle_forbidden, told_decides}
 
 -- what tests decide
 itself : (b : Bool) → Decides b (b ≡ true)
@@ -370,7 +370,7 @@ module _ (e : ranked.Example) where
   size = length e.entries
 
   abbrev tells : Told → Bool
-  tells (verdict kind nodes) = is_told kind e.cycle && (eqb size nodes && leb nodes 65536)
+  tells (verdict kind nodes) = is_told kind e.cycle && (eqb size nodes && leb nodes 6)
   tells (full room) = ltb room size
   tells (passes c) = meets e c
   tells (refused c b) = breaks_first e c b
@@ -379,15 +379,15 @@ module _ (e : ranked.Example) where
   tells_holds h (verdict kind nodes) t =
       let a = means e.duty in
       let b = means e.rule in
-      let p = and_parts (is_told kind e.cycle) (eqb size nodes && leb nodes 65536) t in
-      let q = and_parts (eqb size nodes) (leb nodes 65536) p.1 in
+      let p = and_parts (is_told kind e.cycle) (eqb size nodes && leb nodes 6) t in
+      let q = and_parts (eqb size nodes) (leb nodes 6) p.1 in
       let count : Count (graph_of e) nodes =
       subst (Count (graph_of e)) (eqb-true size nodes q.0)
-      (record { at = λ k. (entry_at e k).node; apart = h.once; reached = h.only; whole = h.reached }) in (
-        count,
-        kind_told kind e.cycle a b (FallingMeasures (graph_of e) (λ k. (entry_at e k).node) (λ k. (entry_at e k).measure) size)
-            p.0 (cycle_forbidden a b h.charts nodes (leb-true nodes 65536 q.1) count) h.cycle h.words,
-      )
+      (record { at = λ k. (entry_at e k).node; apart = h.once; reached = h.only; whole = h.reached }) in
+      let few : nodes ≤ 6 = leb-true nodes 6 q.1 in
+      told_decides a b 6 kind nodes few count
+      (kind_told kind e.cycle a b (FallingMeasures (graph_of e) (λ k. (entry_at e k).node) (λ k. (entry_at e k).measure) size)
+      p.0 (cycle_forbidden a b h.charts nodes (omega (arith, few)) count) h.cycle h.words)
   tells_holds h (full room) t =
       let low = ltb-true room size t in
       record {

@@ -2,9 +2,9 @@
 use Rattle.std.specs.Prelude.{ℕ, List, [], ◌∷◌, map}
 use Rattle.std.specs.List.{All}
 use Rattle.bench.specs.Slips.{Fits}
-use Rattle.bench.specs.Verdicts.{IsVerdict}
+use Rattle.bench.specs.Verdicts.{Decides}
 use Rattle.chart.specs.Automata.{Automaton}
-use Rattle.graph.specs.Walks.{Count, More}
+use Rattle.graph.specs.Walks.{More}
 use Rattle.rank.specs.Containment.{Charts}
 use Rattle.rank.specs.Examples.{TableChart, means, marked_loop, unmarked_loop, no_start, still}
 use Rattle.rank.specs.Ranked.{ranked_graph}
@@ -19,7 +19,7 @@ use Rattle.slip.specs.Rules.{FirstBreach, Meets}
 
 -- what is told of a duty and a rule
 pub data Told : Type 0 where
-  -- the verdict, and how many nodes can be reached
+  -- in a room of 6, the verdict, and how many nodes can be reached
   verdict : Kind → ℕ → Told
   -- more nodes can be reached than this room has
   full : ℕ → Told
@@ -62,7 +62,7 @@ examples =
     ∷ []
 
 abbrev pub HoldsFor : Automaton → Automaton → Told → Type 0
-HoldsFor a b (verdict kind nodes) = Count (ranked_graph a b) nodes × IsVerdict a b kind
+HoldsFor a b (verdict kind nodes) = Decides a b 6 (record { kind = kind; nodes = nodes })
 HoldsFor a b (full room) = More (ranked_graph a b) room
 HoldsFor a b (passes c) = Fits 6 c × Meets (ranked_graph a b) c
 HoldsFor a b (refused c breach) = Fits 6 c × FirstBreach (ranked_graph a b) c breach

@@ -68,4 +68,4 @@ module _ {D R : Type 0} (meaning_d : D → Automaton) (meaning_r : R → Automat
     -- where it is lent a table of another length, nothing has happened to the bench
     pub other :
         (a b : Automaton) (room : ℕ) (mine : List Record) → (Sized room table → ⊥) → LedTo a b room bench mine
-        → LedTo a b room bench' mine
+        → LedTo a b room bench' mine × Sound a b bench'.state mine

@@ -7,11 +7,11 @@ ghost use Rattle.fault.specs.declared.ChartFault.TheVariants.{Text};
 ghost use Rattle.fault.specs.declared.MemberFault.TheVariants.{Word, Search};
 ghost use Rattle.fault.specs.declared.BenchFault.TheVariants as bench;
 
-use rules::Breach;
+use rules::{Breach, Rule};
 
 // A fault of any layer, as its reader sees it.
 pub trait Fault {
-    // its number, and the line or place that it tells
+    // its number, and what it tells
     ghost refusal: { Self → Refusal };
 
     // The refusal's number.
@@ -21,6 +21,10 @@ pub trait Fault {
     // The line or place that it tells, or 0.
     fn place(&self) -> usize
         ensures { result ≡ (refusal self.now).place };
+
+    // The rule that is broken, if it tells one.
+    fn rule(&self) -> Option<Rule>
+        ensures { result ≡ (refusal self.now).rule };
 }
 
 // A chart's text is refused at a line, counted from 1; line 0 is the text as a whole.
@@ -45,6 +49,12 @@ impl Fault for TextFault {
     fn place(&self) -> usize {
         match *self {
             TextFault::Form(line) | TextFault::Range(line) => line,
+        }
+    }
+
+    fn rule(&self) -> Option<Rule> {
+        match *self {
+            TextFault::Form(_) | TextFault::Range(_) => None,
         }
     }
 }
@@ -85,6 +95,13 @@ impl Fault for ChartFault {
             ChartFault::FewRows | ChartFault::Limits => 0,
         }
     }
+
+    fn rule(&self) -> Option<Rule> {
+        match *self {
+            ChartFault::Text(e) => e.rule(),
+            ChartFault::FewRows | ChartFault::Limits => None,
+        }
+    }
 }
 
 // A lasso, which is a stem and a loop that repeats for ever, is refused.
@@ -108,6 +125,12 @@ impl Fault for LassoFault {
     fn place(&self) -> usize {
         match *self {
             LassoFault::Limits | LassoFault::Letter => 0,
+        }
+    }
+
+    fn rule(&self) -> Option<Rule> {
+        match *self {
+            LassoFault::Limits | LassoFault::Letter => None,
         }
     }
 }
@@ -134,6 +157,12 @@ impl Fault for SearchFault {
     fn place(&self) -> usize {
         match *self {
             SearchFault::Table | SearchFault::Full => 0,
+        }
+    }
+
+    fn rule(&self) -> Option<Rule> {
+        match *self {
+            SearchFault::Table | SearchFault::Full => None,
         }
     }
 }
@@ -177,6 +206,13 @@ impl Fault for MemberFault {
         match *self {
             MemberFault::Word(e) => e.place(),
             MemberFault::Search(e) => e.place(),
+        }
+    }
+
+    fn rule(&self) -> Option<Rule> {
+        match *self {
+            MemberFault::Word(e) => e.rule(),
+            MemberFault::Search(e) => e.rule(),
         }
     }
 }
@@ -246,6 +282,15 @@ impl Fault for BenchFault {
             BenchFault::Search(e) => e.place(),
             BenchFault::Broken(e) => e.place,
             _ => 0,
+        }
+    }
+
+    fn rule(&self) -> Option<Rule> {
+        match *self {
+            BenchFault::Chart(e) => e.rule(),
+            BenchFault::Search(e) => e.rule(),
+            BenchFault::Broken(e) => Some(e.rule),
+            _ => None,
         }
     }
 }

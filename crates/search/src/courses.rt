@@ -105,7 +105,7 @@ fn is_ready<M: Map>(
 
 // Writes a lasso through a node into the first records of a table, each half found breadth first, if the node is a marked one that can
 // be reached and lies on a cycle, the work table has room for each node that can be reached, and the table for twice as many. An edge
-// is asked for once in each half. What the work table holds afterwards is no answer.
+// is asked for at most once in each half. What the work table holds afterwards is no answer.
 pub fn write_lasso<M: Map>(
     map: &M,
     word: Word<'_>,

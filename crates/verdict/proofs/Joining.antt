@@ -3,7 +3,7 @@ use Rattle.std.proofs.Common.{◌≡◌, ◌∙◌, ℕ, ◌<◌, ◌++◌, List
 use Rattle.std.proofs.lemmas.List.{length-take, length-take-le, take-append-drop, take-append-le}
 use Rattle.bench.specs.Calls.{Inspected, Judged}
 use Rattle.bench.specs.Histories.{HandsOut}
-use Rattle.bench.specs.Slips.{handed, handed_for, slip_at}
+use Rattle.bench.specs.Slips.{Fits, handed, handed_for, slip_at}
 use Rattle.bench.specs.States.{stem_of}
 use Rattle.bench.specs.declared.states.State.{State}
 use Rattle.chart.specs.Automata.{Automaton}
@@ -62,6 +62,8 @@ module _ (a b : Automaton) (room : ℕ) (s : State) (table work : List Record) (
   certified =
       record {
         decides = j.decides;
+        fits = subst (Fits room) (sym whole) j.drafts.fits;
+        hands = h.hands ∙ (ap handed stands ∙ ap handed (sym whole));
         meets = subst (Meets (ranked_graph a b)) (sym whole) j.drafts.meets;
         shows = subst (Shows a b) (stands ∙ sym whole) h.shows;
       }

@@ -23,6 +23,9 @@ slip_of c = record { kind = c.verdict.kind; stem = length c.stem.now; records = 
 module _ (a b : Automaton) (room : ℕ) where
   pub record Certifies (c : Certified) : Type 0 where
     pub decides : Decides a b room c.verdict
+    -- so a keep slip has nothing before its loop place
+    pub fits : Fits room (slip_of c)
+    pub hands : c.released.now ≡ handed (slip_of c)
     pub meets : Meets (ranked_graph a b) (slip_of c)
     pub shows : Shows a b (slip_of c)
 

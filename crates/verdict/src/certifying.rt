@@ -1,4 +1,4 @@
-// What a passed slip is handed out for. The contracts here are proved from those of the bench's calls alone.
+// What a passed slip is handed out for. The contracts here are proved from those of the bench's calls.
 ghost use Rattle.std.specs.Prelude.{◌≡◌, MatchResult};
 ghost use Rattle.bench.specs.States.{stem_of};
 ghost use Rattle.verdict.specs.Certified.{Certifies, Confirms, ConfirmRefused, DecideRefused};
