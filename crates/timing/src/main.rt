@@ -10,12 +10,34 @@ mod walks;
 
 use anyhow::anyhow;
 use bands::Band;
+use bench::Kind;
 use lasso::NO_WORD;
 use search::{Record, survey};
+use slip::Slip;
 use std::time::Instant;
 use std::{env, io};
 
-// One search, in a table of 65,536 records.
+// The inspection of a slip that has each of the nodes with its measure.
+fn time_inspection(
+    rt: &HostRuntime,
+    name: &str,
+    map: &Band,
+    nodes: &mut [Record],
+) -> anyhow::Result<()> {
+    for node in nodes.iter_mut() {
+        node.letter = 0;
+    }
+    let count = nodes.len();
+    let slip = Slip::new(Kind::Keep, 0, nodes).ok_or_else(|| anyhow!("there is no such slip"))?;
+    let begun = Instant::now(rt)?;
+    let breach = slip.first_breach(map, NO_WORD);
+    let spent = begun.elapsed(rt)?.as_micros();
+    let passes = if breach.is_none() { "passes" } else { "breaks" };
+    println!(rt; "{name}-slip {count} {passes} {spent}")?;
+    Ok(())
+}
+
+// One search, in a table of 65,536 records, and the inspection of the slip where there is no marked cycle.
 fn time(rt: &HostRuntime, name: &str, map: Band) -> anyhow::Result<()> {
     let mut work = vec![in rt.alloc(); Record::default(); 65_536]?;
     let begun = Instant::now(rt)?;
@@ -25,7 +47,10 @@ fn time(rt: &HostRuntime, name: &str, map: Band) -> anyhow::Result<()> {
     let count = found.count;
     let witness = if found.witness.is_some() { "yes" } else { "no" };
     println!(rt; "{name} {count} {witness} {spent}")?;
-    Ok(())
+    match (found.witness, work.get_mut(..count)) {
+        (None, Some(nodes)) => time_inspection(rt, name, &map, nodes),
+        _ => Ok(()),
+    }
 }
 
 // Four searches of so many nodes with up to 80 successors each: two with no cycle, of which the second has to look for each
@@ -55,7 +80,7 @@ fn time_all(rt: &HostRuntime, nodes: u32) -> anyhow::Result<()> {
 }
 
 fn figures(rt: &HostRuntime) -> anyhow::Result<()> {
-    println!(rt; "graph nodes marked-cycle microseconds")?;
+    println!(rt; "graph nodes marked-cycle microseconds, and of slips whether they pass")?;
     for nodes in [128, 256, 512, 1024] {
         time_all(rt, nodes)?;
     }
