@@ -73,8 +73,9 @@ fn walk(rt: &HostRuntime, map: &RankedMap, nodes: &[Record]) -> anyhow::Result<(
 // as much room as the nodes need.
 fn judge(rt: &HostRuntime, pair: &Pair, nodes: usize) -> anyhow::Result<(usize, u128, u128)> {
     let heap = rt.alloc();
-    let mut bench = Bench::new(table(&pair.duty)?, table(&pair.rule)?, nodes)
-        .map_err(|_| anyhow!("the pair is refused"))?;
+    let mut bench = Bench::new(table(&pair.duty)?, table(&pair.rule)?, nodes).map_err(|_| anyhow!(
+        "the pair is refused"
+    ))?;
     let mut slip = vec![in heap; Record::default(); 2 * nodes]?;
     let mut work = vec![in heap; Record::default(); nodes]?;
     let begun = Instant::now(rt)?;
@@ -106,12 +107,16 @@ fn time(rt: &HostRuntime, pair: &Pair) -> anyhow::Result<()> {
     let name = pair.name;
     let count = found.count;
     let marked = if found.witness.is_some() { "yes" } else { "no" };
-    println!(rt; "{name} {count} {edges} {marked} {making} {searching} {walking} {judging} {records} {inspecting}")?;
+    println!(rt;
+        "{name} {count} {edges} {marked} {making} {searching} {walking} {judging} {records} {inspecting}"
+    )?;
     Ok(())
 }
 
 pub(crate) fn figures(rt: &HostRuntime) -> anyhow::Result<()> {
-    println!(rt; "graph nodes edges marked-cycle map-us search-us walk-us judge-us records inspect-us")?;
+    println!(rt;
+        "graph nodes edges marked-cycle map-us search-us walk-us judge-us records inspect-us"
+    )?;
     for pair in &DENSE {
         time(rt, pair)?;
     }
