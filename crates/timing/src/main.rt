@@ -47,10 +47,11 @@ fn time(rt: &HostRuntime, name: &str, map: Band) -> anyhow::Result<()> {
     let count = found.count;
     let witness = if found.witness.is_some() { "yes" } else { "no" };
     println!(rt; "{name} {count} {witness} {spent}")?;
-    match (found.witness, work.get_mut(..count)) {
-        (None, Some(nodes)) => time_inspection(rt, name, &map, nodes),
-        _ => Ok(()),
+    if found.witness.is_some() {
+        return Ok(());
     }
+    work.truncate(count);
+    time_inspection(rt, name, &map, work.as_mut_slice())
 }
 
 // Four searches of so many nodes with up to 80 successors each: two with no cycle, of which the second has to look for each
