@@ -6,11 +6,11 @@ use Rattle.graph.specs.Witnesses.{MarkedLasso}
 use Rattle.rules.specs.declared.Kind.TheVariants.{Break}
 use Rattle.search.specs.Courses.{Written}
 use Rattle.search.specs.Tables.{node_at, letter_at}
-use Rattle.search.specs.declared.courses.Course.{Course}
+use Rattle.search.specs.declared.courses.Extent.{Extent}
 use Rattle.search.specs.declared.records.Record.{Record}
 use Rattle.slip.proofs.Meeting.{lasso_meets}
 
-pub break_wrote : (g : Graph) (room : ℕ) → Bounded g → (was table : List Record) (c : Course) → Written g room was table c → (nodes : ℕ)
+pub break_wrote : (g : Graph) (room : ℕ) → Bounded g → (was table : List Record) (c : Extent) → Written g room was table c → (nodes : ℕ)
     → Wrote g room (record { kind = Break; nodes = nodes }) was table (record { kind = Break; count = c.count; stem = c.stem })
 break_wrote g room bounds was table c w nodes =
     let rs = w.records in

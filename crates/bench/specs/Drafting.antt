@@ -41,11 +41,15 @@ kind_of (Some v) = Break
 abbrev pub verdict_of : Findings → Verdict
 verdict_of found = record { kind = kind_of found.witness; nodes = found.count }
 
+-- more nodes can be reached than there is room for
+abbrev pub Overrun : Graph → ℕ → BenchFault → Type 0
+Overrun g room (Search Full) = More g room
+Overrun g room _ = ⊥
+
 module _ (a b : Automaton) (room : ℕ) (was table : List Record) where
   pub record Searched (v : Verdict) (f : Form) : Type 0 where
     pub decides : Decides a b room v
     pub wrote : Wrote (ranked_graph a b) room v was table f
 
   abbrev pub SearchRefused : BenchFault → Type 0
-  SearchRefused (Search Full) = More (ranked_graph a b) room × (table ≡ was)
-  SearchRefused _ = ⊥
+  SearchRefused e = Overrun (ranked_graph a b) room e × (table ≡ was)

@@ -12,17 +12,14 @@ use fault::BenchFault;
 use lasso::NO_WORD;
 use rules::{Breach, Kind};
 use search::Record;
+use slip::stems;
 
 // Refused by 9 where the slip has more records than a slip table for the room, or its loop place does not go with its kind.
 fn check_fit(room: usize, kind: Kind, stem: usize, records: &[Record]) -> Result<(), BenchFault>
     requires { room ≤ 65536 }
     ensures { MatchResult result (λ _. Fits room (record { kind = kind; stem = stem; records = records.now })) (λ e. (e ≡ faults.Shape) × (Fits room (record { kind = kind; stem = stem; records = records.now }) → ⊥)) }
 {
-    let stems = match kind {
-        Kind::Keep => 1,
-        Kind::Break => records.len(),
-    };
-    if records.len() > 2 * room || stem >= stems {
+    if records.len() > 2 * room || stem >= stems(kind, records.len()) {
         return Err(BenchFault::Shape);
     }
     Ok(())
@@ -92,23 +89,28 @@ impl<D: Chart, R: Chart> Bench<D, R> {
         self.fill(kind, stem, records, table)
     }
 
+    // The work of `clear`.
+    fn forget(&mut self)
+        ensures state { self.new.state ≡ states.Empty }
+        ensures bench { SameBench self.old self.new }
+    {
+        self.state = State::Empty;
+    }
+
     // Takes the slip away. The table stays as it is.
     pub fn clear(&mut self)
         ensures state { self.new.state ≡ states.Empty }
         ensures bench { SameBench self.old self.new }
         ensures law { (a b : Automaton) (n : ℕ) (table : List Record) → LedTo D.Chart.meaning R.Chart.meaning a b n self.old table → LedTo D.Chart.meaning R.Chart.meaning a b n self.new table }
     {
-        self.state = State::Empty;
+        self.forget();
     }
 
     // The form of the slip, and that it fits. Refused by 11 where there is none.
     fn form(&self) -> Result<Form, BenchFault>
         ensures { MatchResult result (λ f. Formed self.now.state f × Fitting self.now.room f) (λ e. (e ≡ faults.Vacant) × (self.now.state ≡ states.Empty)) }
     {
-        match self.state {
-            State::Empty => Err(BenchFault::Vacant),
-            State::Drafted(form) | State::Passed(form) => Ok(form),
-        }
+        self.state.form().ok_or(BenchFault::Vacant)
     }
 
     // The first rule that the slip of this form breaks.

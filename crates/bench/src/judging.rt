@@ -43,7 +43,7 @@ fn write_slip<M: Map>(map: &M, found: Findings, work: &mut [Record], table: &mut
 impl<D: Chart, R: Chart> Bench<D, R> {
     ghost use Rattle.bench.specs.Benches.{SameBench, duty_on, rule_on};
     ghost use Rattle.bench.specs.Calls.{JudgeTells, Sized, WillPass};
-    ghost use Rattle.bench.specs.Drafting.{Searched, SearchRefused};
+    ghost use Rattle.bench.specs.Drafting.{Overrun, Searched, SearchRefused};
     ghost use Rattle.bench.specs.Histories.{Law};
     ghost use Rattle.fault.specs.declared.BenchFault.TheVariants as faults;
 
@@ -57,6 +57,15 @@ impl<D: Chart, R: Chart> Bench<D, R> {
         Ok(())
     }
 
+    // Searches a graph. Refused by 13 where there is no room.
+    fn survey<M: Map>(&self, map: &M, work: &mut [Record]) -> Result<Findings, BenchFault>
+        requires { length work.old ≡ self.now.room }
+        ensures same_length { length work.new ≡ length work.old }
+        ensures found { MatchResult result (Surveyed (M.Map.graph map.now [] 0) work.new) (Overrun (M.Map.graph map.now [] 0) self.now.room) }
+    {
+        Ok(survey(map, NO_WORD, work)?)
+    }
+
     // Searches the ranked graph, and writes a slip for what it finds. Refused by 13 where there is no room.
     fn search(
         &self,
@@ -68,7 +77,7 @@ impl<D: Chart, R: Chart> Bench<D, R> {
         ensures { MatchResult result (λ r. Searched (duty_on D.Chart.meaning self.now) (rule_on R.Chart.meaning self.now) self.now.room table.old table.new r.0 r.1) (SearchRefused (duty_on D.Chart.meaning self.now) (rule_on R.Chart.meaning self.now) self.now.room table.old table.new) }
     {
         let map = self.map();
-        let found = survey(&map, NO_WORD, work)?;
+        let found = self.survey(&map, work)?;
         let form = write_slip(&map, found, work, table);
         Ok((tell(found), form))
     }

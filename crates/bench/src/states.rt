@@ -3,7 +3,7 @@ ghost use Rattle.std.specs.Prelude.{◌<◌, ◌≤◌, length};
 ghost use Rattle.slip.specs.Shapes.{stems};
 
 use rules::Kind;
-use search::Record;
+use search::{Extent, Record};
 use slip::Slip;
 
 // A slip by its kind, the number of its records, which are the first of the slip table, and its loop place.
@@ -18,7 +18,19 @@ pub struct Form {
 impl Form {
     ghost use Rattle.std.specs.Prelude.{◌≡◌};
     ghost use Rattle.bench.specs.Slips.{handed, slip_at};
+    ghost use Rattle.rules.specs.declared.Kind.TheVariants as kinds;
     ghost use Rattle.slip.specs.Certificates.{content};
+
+    // That of a break slip whose records are a lasso.
+    pub(crate) fn of_lasso(extent: Extent) -> Form
+        ensures { result ≡ record { kind = kinds.Break; count = extent.count; stem = extent.stem } }
+    {
+        Form {
+            kind: Kind::Break,
+            count: extent.count,
+            stem: extent.stem,
+        }
+    }
 
     // The slip of this form.
     pub(crate) fn slip(self, table: &[Record]) -> Slip<'_>
@@ -51,4 +63,20 @@ pub enum State {
     Drafted(Form),
     // a slip that meets the rules of its kind
     Passed(Form),
+}
+
+impl State {
+    ghost use Rattle.std.specs.Prelude.{◌≡◌, MatchOption};
+    ghost use Rattle.bench.specs.Calls.{Formed};
+    ghost use Rattle.bench.specs.declared.states.State.TheVariants as states;
+
+    // The form of the slip, if there is one.
+    pub fn form(self) -> Option<Form>
+        ensures { MatchOption result (self ≡ states.Empty) (Formed self) }
+    {
+        match self {
+            State::Empty => None,
+            State::Drafted(form) | State::Passed(form) => Some(form),
+        }
+    }
 }

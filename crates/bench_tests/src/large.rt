@@ -1,9 +1,9 @@
-// The largest room.
+// Many nodes, and the largest room.
 use crate::samples::{
-    Small, breaks_break, broken, drafted, inspected, kept, nodes, passed, verdict,
+    Small, breaks_break, broken, drafted, inspected, kept, nodes, passed, verdict, wide,
 };
 use bench::{BreakRule, Kind, Record};
-use fault::BenchFault;
+use fault::{BenchFault, SearchFault};
 use std::test::Fail;
 
 // 131,072 records are put, and one more is not.
@@ -66,6 +66,24 @@ fn breaks(rt: HostRuntime) -> Result<(), Fail> {
     );
     assert_eq!(rt; said, breaks_break(BreakRule::Next, 131071));
     assert_eq!(rt; bench.state(), drafted(Kind::Break, 131072, 131071));
+    Ok(())
+}
+
+// There is a record for each of 512 nodes, and then for all but one.
+#[test]
+fn full(rt: HostRuntime) -> Result<(), Fail> {
+    let heap = rt.alloc();
+    let mut table = vec![in heap; Record::default(); 1024]?;
+    let mut work = vec![in heap; Record::default(); 512]?;
+    let mut bench = wide(512)?;
+    let said = bench.judge(table.as_mut_slice(), work.as_mut_slice());
+    assert_eq!(rt; said, verdict(Kind::Keep, 512));
+    assert_eq!(rt; bench.inspect(table.as_slice()), Ok(()));
+    assert_eq!(rt; bench.release(table.as_slice())?.len(), 512);
+    table.truncate(1022);
+    work.truncate(511);
+    let said = wide(511)?.judge(table.as_mut_slice(), work.as_mut_slice());
+    assert_eq!(rt; said, Err(BenchFault::Search(SearchFault::Full)));
     Ok(())
 }
 

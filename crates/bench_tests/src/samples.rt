@@ -76,6 +76,14 @@ pub(crate) const FALLING: [Record; 11] = measured![
     (196736, 1),
 ];
 
+// Every one of 32 states leads to each of them, and none is marked; the rule's first state is a marked one that leads to itself and
+// to a second one: a keep with 512 nodes.
+pub(crate) fn wide(room: usize) -> Result<Small, BenchFault> {
+    let duty = Table::new(32, 1, 0xffff_ffff, 0b0, &[0xffff_ffff; 32])?;
+    let rule = Table::new(2, 1, 0b1, 0b1, &[0b11, 0b00])?;
+    Bench::new(duty, rule, room)
+}
+
 // A break slip over the first bench, with loop place 1.
 pub(crate) const LASSO: [Record; 3] = nodes![12288, 8224, 8192];
 

@@ -85,6 +85,7 @@ fn with_a_draft(rt: HostRuntime) -> Result<(), Fail> {
     bench.put(Kind::Break, 2, &LASSO, &mut table)?;
     refuses(&rt, rt.alloc(), &mut bench)?;
     assert_eq!(rt; bench.state(), drafted(Kind::Break, 3, 2));
+    assert_eq!(rt; bench.release(&table).err(), Some(BenchFault::Unpassed));
     assert_eq!(rt; bench.inspect(&table), breaks_break(BreakRule::Next, 2));
     Ok(())
 }

@@ -5,3 +5,4 @@ pub mod Finding
 pub mod Unrolled
 pub mod Falling
 pub mod Rounds
+pub mod Ascending

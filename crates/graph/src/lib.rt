@@ -1,10 +1,13 @@
 // Finite graphs behind one interface, which is all that the layers above see of them.
 #![tactic(auto)]
 
+mod implicit;
+
 ghost use Rattle.std.specs.Prelude.{◌≡◌, ℕ, List};
 ghost use Rattle.graph.specs.Graphs.{Graph, Bounded};
 ghost use Rattle.graph.specs.Least.{Least};
 
+pub use implicit::{ImplicitGraph, Nodes, Rising};
 use lasso::Word;
 
 // A map is a finite graph that answers questions. Each question is also handed a word: a map may depend on it.

@@ -19,7 +19,7 @@ use Rattle.verdict.specs.declared.certifying.Certified.{Certified}
 
 -- what break is shown by
 abbrev pub Shown : Automaton → Automaton → List Record → List Record → Type 0
-Shown a b stem looped = ShowsFor a b Break (length stem) (stem ++ looped)
+Shown a b stem cycle = ShowsFor a b Break (length stem) (stem ++ cycle)
 
 pub break_shown : (a b : Automaton) (c : Certified) → Certifies a b 512 c → c.verdict.kind ≡ Break → Shown a b c.stem.now c.released.now
 break_shown a b c h e = subst (λ (k : Kind). ShowsFor a b k (length c.stem.now) (c.stem.now ++ c.released.now)) e h.shows
@@ -58,7 +58,7 @@ told duty rule c (Kept v) h t = (
   t.1,
 )
 told duty rule c (Broken course) h t =
-    let shown = subst (λ (s : List Record). Shown h.a h.b s course.looped.records.now) (sym t.1)
+    let shown = subst (λ (s : List Record). Shown h.a h.b s course.cycle.records.now) (sym t.1)
     (subst (λ (s : List Record). Shown h.a h.b c.stem.now s) (sym t.2) (break_shown h.a h.b c h.certifies t.0)) in
     record {
       a = h.a;

@@ -21,7 +21,7 @@ use Rattle.verdict.specs.declared.certifying.Certified.{Certified}
 
 -- the letters of the stem, and then those of the loop
 abbrev pub word_of : Course → List ℕ
-word_of c = letters (c.stem.records.now ++ c.looped.records.now)
+word_of c = letters (c.stem.records.now ++ c.cycle.records.now)
 
 abbrev pub stem_of : Course → ℕ
 stem_of c = length c.stem.records.now
@@ -52,11 +52,11 @@ Lettered c = c.verdict.kind ≡ Break → Known (c.stem.now ++ c.released.now)
 abbrev pub Tells : Certified → Told → Type 0
 Tells c (Kept v) = (v ≡ c.verdict) × (v.kind ≡ Keep)
 Tells c (Broken course) =
-    (c.verdict.kind ≡ Break) × (course.stem.records.now ≡ c.stem.now) × (course.looped.records.now ≡ c.released.now)
+    (c.verdict.kind ≡ Break) × (course.stem.records.now ≡ c.stem.now) × (course.cycle.records.now ≡ c.released.now)
 
 abbrev pub course_text : Course → List ℕ
 course_text c =
-    codes "stem loop" ++ 10 ∷ (letters_text c.stem.records.now ++ 32 ∷ (letters_text c.looped.records.now ++ 10 ∷ []))
+    codes "stem loop" ++ 10 ∷ (letters_text c.stem.records.now ++ 32 ∷ (letters_text c.cycle.records.now ++ 10 ∷ []))
 
 abbrev pub told_text : Told → List ℕ
 told_text (Kept v) = verdict_text v

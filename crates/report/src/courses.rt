@@ -15,7 +15,7 @@ use verdict::{Certified, Kind, Record, Verdict};
 #[derive(Clone, Copy)]
 pub struct Course<'a> {
     pub stem: Letters<'a>,
-    pub looped: Letters<'a>,
+    pub cycle: Letters<'a>,
 }
 
 #[derive(Clone, Copy)]
@@ -34,7 +34,7 @@ impl fmt::Display for Course<'_> {
     ghost output = { λ c. Some (course_text c) };
 
     fn fmt<W: fmt::Write>(&self, f: &mut fmt::Formatter<W>) -> fmt::Result {
-        write!(f, "stem loop\n{} {}\n", self.stem, self.looped)
+        write!(f, "stem loop\n{} {}\n", self.stem, self.cycle)
     }
 }
 
@@ -62,14 +62,14 @@ impl fmt::Display for CourseReport<'_> {
 
 impl<'a> Course<'a> {
     // The course of a break slip, whose letters are known.
-    fn new(stem: &'a [Record], looped: &'a [Record]) -> Course<'a>
-        requires { Known (stem.now ++ looped.now) }
+    fn new(stem: &'a [Record], cycle: &'a [Record]) -> Course<'a>
+        requires { Known (stem.now ++ cycle.now) }
         ensures stem { result.stem.records.now ≡ stem.entry.now }
-        ensures looped { result.looped.records.now ≡ looped.entry.now }
+        ensures cycle { result.cycle.records.now ≡ cycle.entry.now }
     {
         Course {
             stem: Letters { records: stem },
-            looped: Letters { records: looped },
+            cycle: Letters { records: cycle },
         }
     }
 }

@@ -30,7 +30,7 @@ fn letter_once(rt: HostRuntime) -> Result<(), Fail> {
         return Err("no course")?;
     };
     assert_eq!(rt; course.stem.records.is_empty(), false);
-    let records = course.stem.records.iter().chain(course.looped.records);
+    let records = course.stem.records.iter().chain(course.cycle.records);
     for (place, record) in records.enumerate() {
         let letter = if place == 0 { 0 } else { 15 };
         assert_eq!(rt; record.letter, letter);
@@ -47,8 +47,8 @@ fn letters_in_turn(rt: HostRuntime) -> Result<(), Fail> {
     let CourseReport(Ok(Told::Broken(course))) = course_of_texts(duty, rule, &mut table) else {
         return Err("no course")?;
     };
-    assert_eq!(rt; course.looped.records.len() % 2, 0);
-    let records = course.stem.records.iter().chain(course.looped.records);
+    assert_eq!(rt; course.cycle.records.len() % 2, 0);
+    let records = course.stem.records.iter().chain(course.cycle.records);
     for (place, record) in records.enumerate() {
         assert_eq!(rt; record.letter as usize, place % 2);
     }

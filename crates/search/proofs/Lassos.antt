@@ -9,7 +9,7 @@ use Rattle.graph.specs.Walks.{Edge, Reach, begin, go, here, next, Path, Recurrin
 use Rattle.graph.specs.Witnesses.{MarkedLasso}
 use Rattle.lasso.specs.Positions.{after}
 use Rattle.lasso.proofs.Places.{after_next, after_last}
-use Rattle.search.specs.declared.courses.Course.{Course}
+use Rattle.search.specs.declared.courses.Extent.{Extent}
 use Rattle.search.specs.declared.queues.Origin.{Origin}
 use Rattle.search.specs.declared.queues.Origin.TheVariants.{Starts, Node}
 use Rattle.search.specs.declared.records.Record.{Record}
@@ -174,6 +174,6 @@ module _ (g : Graph) (v n a b : ℕ) (was mid part : List Record) (stem : WayWri
             (cases_lt k a);
       }
 
-  pub written : (c : Course) → c ≡ record { count = a + b; stem = a }
+  pub written : (c : Extent) → c ≡ record { count = a + b; stem = a }
       → Written g n was (take a mid ++ (part ++ drop (length mid - a) (drop a mid))) c
   written c is = subst (λ x. Written g n was (take a mid ++ (part ++ drop (length mid - a) (drop a mid))) x) (sym is) made

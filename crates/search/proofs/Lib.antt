@@ -5,7 +5,6 @@ pub mod Steps
 pub mod Pushes
 pub mod Components
 pub mod Pops
-pub mod Rising
 pub mod Moves
 pub mod Finished
 pub mod Weighing

@@ -4,7 +4,7 @@ use Rattle.std.proofs.lemmas.Bool.{cases_lt}
 use Rattle.graph.specs.Graphs.{Graph}
 use Rattle.graph.specs.Walks.{Edge, Reach, begin, go, More}
 use Rattle.search.specs.declared.records.Record.{Record}
-use Rattle.search.specs.Rising.{Passed, Next}
+use Rattle.graph.specs.Ascending.{Passed, Next}
 use Rattle.search.specs.Tables.{node_at, letter_at, measure_at}
 use Rattle.search.specs.Trees.{At, Used, Held, put}
 use Rattle.search.specs.declared.queues.Origin.{Origin}

@@ -9,7 +9,7 @@ use Rattle.graph.proofs.Paths.{no_measure}
 use Rattle.search.specs.declared.records.Record.{Record}
 use Rattle.search.specs.declared.spots.Spot.{Spot}
 use Rattle.search.specs.Changes.{Settled}
-use Rattle.search.specs.Rising.{Passed, Next}
+use Rattle.graph.specs.Ascending.{Passed, Next}
 use Rattle.search.specs.Searches.{Going, Holds, Entered, Crowded, TooMany, Visited, Swept}
 use Rattle.search.specs.Surveys.{Collected, Told}
 use Rattle.search.specs.Tables.{node_at, letter_at, measure_at, low_at, up_at}

@@ -4,7 +4,7 @@ use Rattle.std.proofs.lemmas.Bool.{cases_eq, cases_lt}
 use Rattle.graph.specs.Graphs.{Graph}
 use Rattle.graph.specs.Walks.{Edge}
 use Rattle.search.specs.declared.records.Record.{Record}
-use Rattle.search.specs.Rising.{Next}
+use Rattle.graph.specs.Ascending.{Next}
 use Rattle.search.specs.Tables.{node_at, measure_at}
 use Rattle.search.specs.Trees.{Follows, Heavy}
 use Rattle.search.specs.Weights.{Weight, Apart, Below, ByLetters}

@@ -3,14 +3,14 @@ use Rattle.std.specs.Prelude.{◌≡◌, ℕ, ◌*◌, ◌<◌, ◌≤◌, ◌++
 use Rattle.graph.specs.Graphs.{Graph}
 use Rattle.graph.specs.Walks.{Recurring, More}
 use Rattle.graph.specs.Witnesses.{MarkedLasso}
-use Rattle.search.specs.declared.courses.Course.{Course}
+use Rattle.search.specs.declared.courses.Extent.{Extent}
 use Rattle.search.specs.declared.records.Record.{Record}
 use Rattle.search.specs.Surveys.{Allowed}
 use Rattle.search.specs.Tables.{node_at, letter_at, measure_at}
 
 -- The first records of the table are a marked lasso with all measures 0, and the others are as they were; a search in n records
 -- has found it.
-pub record Written (g : Graph) (n : ℕ) (was table : List Record) (c : Course) : Type 0 where
+pub record Written (g : Graph) (n : ℕ) (was table : List Record) (c : Extent) : Type 0 where
   pub records : List Record
   pub count : length records ≡ c.count
   pub fits : c.count ≤ length was

@@ -1,6 +1,4 @@
 pub mod Tables
-pub mod Graphs
-pub mod Rising
 pub mod Surveys
 pub mod Trees
 pub mod Changes

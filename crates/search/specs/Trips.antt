@@ -8,7 +8,7 @@ use Rattle.search.specs.declared.queues.Stop.{Stop}
 use Rattle.search.specs.declared.queues.Stop.TheVariants.{Full, Found}
 use Rattle.search.specs.declared.queues.Trip.{Trip}
 use Rattle.search.specs.declared.records.Record.{Record}
-use Rattle.search.specs.Graphs.{graph_of}
+use Rattle.graph.specs.Implicit.{graph_of}
 use Rattle.search.specs.Tables.{node_at, letter_at, measure_at}
 use Rattle.search.specs.Trees.{At}
 

@@ -4,7 +4,7 @@ use Rattle.graph.specs.Graphs.{Graph}
 use Rattle.graph.specs.Walks.{Recurring, Measure}
 use Rattle.search.specs.declared.records.Record.{Record}
 use Rattle.search.specs.declared.spots.Spot.{Spot}
-use Rattle.search.specs.Rising.{Passed}
+use Rattle.graph.specs.Ascending.{Passed}
 use Rattle.search.specs.Searches.{Explored, Searching, Keeps}
 use Rattle.search.specs.Tables.{node_at, letter_at, measure_at, low_at, up_at}
 use Rattle.search.specs.Trees.{At, Held, Done}

@@ -2,32 +2,31 @@
 ghost use Rattle.std.specs.Prelude.{◌≡◌, ℕ, ◌+◌, ◌*◌, ◌^◌, ◌≤◌, ◌<◌, ◌++◌, true, length, take, drop, reverse, Decides, MatchOption};
 ghost use Rattle.graph.specs.Graphs.{Graph};
 ghost use Rattle.search.specs.Courses.{Written, NotWritten};
-ghost use Rattle.search.specs.Graphs.{graph_of};
+ghost use Rattle.graph.specs.Implicit.{graph_of};
 ghost use Rattle.search.specs.Surveys.{Allowed};
 ghost use Rattle.search.specs.Tables.{node_at, measure_at};
 ghost use Rattle.search.specs.Trips.{graph_for, IsQueued, Link};
 ghost use Rattle.search.specs.Ways.{Traced, NoWay, WayWritten};
 
-use crate::graphs::ImplicitGraph;
 use crate::queues::{Origin, Queue, Stop, Trip};
 use crate::records::Record;
 use crate::surveys::check_table;
-use graph::Map;
+use graph::{ImplicitGraph, Map};
 use lasso::Word;
 
-// A lasso written into a table: how many records it has, and the place from which they repeat for ever.
+// How far a lasso reaches in a table: how many records it has, and the place from which they repeat for ever.
 #[derive(Clone, Copy, PartialEq, Eq, Debug)]
-pub struct Course {
+pub struct Extent {
     pub count: usize,
     pub stem: usize,
 }
 
-impl Course {
-    fn new(stem: usize, cycle: usize) -> Course
+impl Extent {
+    fn new(stem: usize, cycle: usize) -> Extent
         requires { stem + cycle < 2 ^ 64 }
         ensures { result ≡ record { count = stem + cycle; stem = stem } }
     {
-        Course {
+        Extent {
             count: stem + cycle,
             stem,
         }
@@ -112,7 +111,7 @@ pub fn write_lasso<M: Map>(
     node: u64,
     work: &mut [Record],
     table: &mut [Record],
-) -> Option<Course>
+) -> Option<Extent>
     ensures { MatchOption result (NotWritten (M.Map.graph map.now word.entry.elements.now word.entry.stem) node (length work.old) (length table.old)) (Written (M.Map.graph map.now word.entry.elements.now word.entry.stem) (length work.old) table.old table.new) }
 {
     let graph = ImplicitGraph { map, word };
@@ -130,5 +129,5 @@ pub fn write_lasso<M: Map>(
     };
     let stem = write_way(&there, work, table)?;
     let cycle = write_way(&back, work, &mut table[stem..])?;
-    Some(Course::new(stem, cycle))
+    Some(Extent::new(stem, cycle))
 }

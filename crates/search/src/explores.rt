@@ -2,16 +2,15 @@
 ghost use Rattle.std.specs.Prelude.{◌<◌, length, MatchResult};
 ghost use Rattle.graph.specs.Graphs.{Graph, Bounded};
 ghost use Rattle.search.specs.Changes.{SameTable};
-ghost use Rattle.search.specs.Graphs.{graph_of};
+ghost use Rattle.graph.specs.Implicit.{graph_of};
 ghost use Rattle.search.specs.Searches.{IsExplored, Going, Stepped, Rested, Entered, Crowded, TooMany, GoesOn};
 ghost use Rattle.search.specs.Tables.{letter_at, low_at, up_at};
 ghost use Rattle.search.specs.Weights.{IsRooted, Retired, IsRetiredSpot};
 
-use crate::graphs::ImplicitGraph;
 use crate::records::Record;
 use crate::spots::{Search, Spot};
 use fault::SearchFault;
-use graph::Map;
+use graph::{ImplicitGraph, Map};
 
 impl<'w> Search<'w> {
     // Pushes a new node, if there is room.

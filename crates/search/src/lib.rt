@@ -5,7 +5,6 @@
 
 mod courses;
 mod explores;
-mod graphs;
 mod queues;
 mod records;
 mod scans;
@@ -14,6 +13,6 @@ mod surveys;
 mod tables;
 mod weights;
 
-pub use courses::{Course, write_lasso};
+pub use courses::{Extent, write_lasso};
 pub use records::Record;
 pub use surveys::{Findings, check_table, survey};

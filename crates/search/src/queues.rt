@@ -2,15 +2,14 @@
 ghost use Rattle.std.specs.Prelude.{◌≡◌, ◌≤◌, ◌<◌, true, length, MatchOption, MatchResult};
 ghost use Rattle.graph.specs.Walks.{Edge};
 ghost use Rattle.search.specs.Changes.{SameTable};
-ghost use Rattle.search.specs.Graphs.{graph_of, among};
+ghost use Rattle.graph.specs.Implicit.{graph_of, among};
 ghost use Rattle.search.specs.Tables.{node_at};
 ghost use Rattle.search.specs.Trees.{At};
 ghost use Rattle.search.specs.Trips.{graph_for, Leads, IsQueued, Taken, Added, NoRoom, Leaves, Halted, Begun, Missed};
 
-use crate::graphs::{ImplicitGraph, Nodes};
 use crate::records::Record;
 use crate::tables::find;
-use graph::Map;
+use graph::{ImplicitGraph, Map, Nodes};
 
 // Where a way begins: at any start, or at one node.
 #[derive(Clone, Copy)]
@@ -87,7 +86,7 @@ impl<'w> Queue<'w> {
         ensures same_table { SameTable self.old.work self.new.work }
         ensures added { MatchResult result (λ _. Taken (graph_for M.Map.graph trip.now) trip.now.to (λ v. among (graph_of M.Map.graph trip.now.graph) nodes v ≡ true) self.old.size self.old.work.now self.new.size self.new.work.now) (Halted (graph_for M.Map.graph trip.now) trip.now.from trip.now.to self.new.size self.new.work.now) }
     {
-        for node in trip.graph.rising(nodes, 0) {
+        for node in trip.graph.rising(nodes) {
             let record = Record { node, ..by };
             if node == trip.to {
                 return Err(Stop::Found(record));

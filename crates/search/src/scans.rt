@@ -1,13 +1,12 @@
 // Looking at the edges of the current place until one leads to a new node.
 ghost use Rattle.std.specs.Prelude.{◌≡◌, ◌<◌, length};
 ghost use Rattle.search.specs.Changes.{SameTable};
-ghost use Rattle.search.specs.Graphs.{graph_of};
+ghost use Rattle.graph.specs.Implicit.{graph_of};
 ghost use Rattle.search.specs.Tables.{letter_at};
 ghost use Rattle.search.specs.Searches.{IsSearching, Looked, Scanned, Resumed, IsFurther};
 
-use crate::graphs::ImplicitGraph;
 use crate::spots::Search;
-use graph::Map;
+use graph::{ImplicitGraph, Map};
 
 impl<'w> Search<'w> {
     // Where a place goes on behind a node: at the next number, or with the next letter behind the last.

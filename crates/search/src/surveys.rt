@@ -1,15 +1,14 @@
 // The search from every start, and what it finds.
 ghost use Rattle.std.specs.Prelude.{◌≡◌, ◌≤◌, true, length, MatchResult};
 ghost use Rattle.search.specs.Changes.{SameTable};
-ghost use Rattle.search.specs.Graphs.{graph_of};
+ghost use Rattle.graph.specs.Implicit.{graph_of};
 ghost use Rattle.search.specs.Searches.{Going, Visited, Swept, TooMany};
 ghost use Rattle.search.specs.Surveys.{Allowed, TableRefused, Surveyed, Refused};
 
-use crate::graphs::ImplicitGraph;
 use crate::records::Record;
 use crate::spots::Search;
 use fault::SearchFault;
-use graph::Map;
+use graph::{ImplicitGraph, Map, Nodes};
 use lasso::Word;
 
 // What a search found.
@@ -54,7 +53,7 @@ impl<'w> Search<'w> {
         ensures same_table { SameTable self.old.work self.new.work }
         ensures swept { MatchResult result (λ _. Swept (graph_of M.Map.graph graph.now) self.new.work.now self.new.spot) (TooMany (graph_of M.Map.graph graph.now) (length self.old.work.now)) }
     {
-        for start in graph.starts() {
+        for start in graph.rising(Nodes::Starts) {
             self.visit(graph, start)?;
         }
         Ok(())

@@ -1,30 +1,20 @@
 // What a finished component is worth: a marked node on a cycle, or the measure of its nodes.
 ghost use Rattle.std.specs.Prelude.{◌≡◌, ◌+◌, ◌-◌, ◌<◌, true, ◌⊎◌, length, Some, None, Decides, MatchOption};
 ghost use Rattle.graph.specs.Walks.{Edge};
-ghost use Rattle.search.specs.Graphs.{graph_of};
+ghost use Rattle.graph.specs.Implicit.{graph_of};
 ghost use Rattle.search.specs.Tables.{node_at, measure_at};
 ghost use Rattle.search.specs.Trees.{Follows, Heavy};
 ghost use Rattle.search.specs.Weights.{Weight, Apart, Unmarked, MarkedIn, Rooted, IsRooted, Assessment};
 
-use crate::graphs::ImplicitGraph;
 use crate::spots::{Search, Spot};
 use crate::tables::find;
-use graph::Map;
+use graph::{ImplicitGraph, Map, Nodes};
 
-impl<'a, M: Map> ImplicitGraph<'a, M> {
-    // Does a node lead to itself by this letter?
-    fn leads_home(&self, node: u64, letter: u8) -> bool
-        ensures { Decides result ((graph_of M.Map.graph self.now).edge node letter node ≡ true) }
-    {
-        self.least_next(node, letter, node) == Some(node)
-    }
-
-    // Does a node lead to itself?
-    fn has_self(&self, node: u64) -> bool
-        ensures { Decides result (Edge (graph_of M.Map.graph self.now) node node) }
-    {
-        (0..self.letters()).any(|letter| self.leads_home(node, letter))
-    }
+// Does a node lead to itself?
+fn has_self<M: Map>(graph: &ImplicitGraph<'_, M>, node: u64) -> bool
+    ensures { Decides result (Edge (graph_of M.Map.graph graph.now) node node) }
+{
+    (0..graph.letters()).any(|letter| graph.is_edge(node, letter, node))
 }
 
 impl<'w> Search<'w> {
@@ -46,7 +36,7 @@ impl<'w> Search<'w> {
         ensures { Heavy (λ w. (graph_of M.Map.graph graph.now).edge node letter w ≡ true) self.now.spot.top (length self.now.work.now) (node_at self.now.work.now) (measure_at self.now.work.now) result }
     {
         let mut best: u32 = 0;
-        for next in graph.successors(node, letter) {
+        for next in graph.rising(Nodes::Successors(node, letter)) {
             best = best.max(self.measure_of(next));
         }
         best
@@ -93,7 +83,7 @@ impl<'w> Search<'w> {
     fn is_cyclic<M: Map>(&self, graph: &ImplicitGraph<'_, M>, node: u64) -> bool
         ensures { Decides result ((self.now.spot.cur + 1 < self.now.spot.size) ⊎ Edge (graph_of M.Map.graph graph.now) node node) }
     {
-        self.spot.size - self.spot.cur > 1 || graph.has_self(node)
+        self.spot.size - self.spot.cur > 1 || has_self(graph, node)
     }
 
     // Assesses a component where no marked cycle is found yet. A marked node on a cycle is the error: no measure is owed then.

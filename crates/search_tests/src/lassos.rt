@@ -3,7 +3,7 @@ use crate::Sheet;
 use crate::samples::{USED, in_a_row, plain};
 use graph::Map;
 use lasso::NO_WORD;
-use search::{Course, Record, write_lasso};
+use search::{Extent, Record, write_lasso};
 use std::alloc::{AllocError, Global};
 use std::test::Fail;
 
@@ -14,7 +14,7 @@ fn course<M: Map>(
     node: u64,
     work: usize,
     table: usize,
-) -> Result<Option<Course>, AllocError> {
+) -> Result<Option<Extent>, AllocError> {
     let mut work = vec![in heap; USED; work]?;
     let mut table = vec![in heap; USED; table]?;
     Ok(write_lasso(
@@ -47,7 +47,7 @@ const CYCLE: Sheet<'static> = Sheet {
 fn stem_and_cycle(rt: HostRuntime) {
     let mut table = [USED; 10];
     let found = write_lasso(&CYCLE, NO_WORD, 1, &mut [USED; 5], &mut table);
-    assert_eq!(rt; found, Some(Course { count: 4, stem: 1 }));
+    assert_eq!(rt; found, Some(Extent { count: 4, stem: 1 }));
     assert_eq!(rt;
         table,
         [
@@ -70,7 +70,7 @@ fn stem_and_cycle(rt: HostRuntime) {
 fn no_stem(rt: HostRuntime) {
     let mut table = [USED; 2];
     let found = write_lasso(&plain(1, 1, &[0b1]), NO_WORD, 0, &mut [USED; 1], &mut table);
-    assert_eq!(rt; found, Some(Course { count: 1, stem: 0 }));
+    assert_eq!(rt; found, Some(Extent { count: 1, stem: 0 }));
     assert_eq!(rt; table, [step(0, 0), USED]);
 }
 
@@ -85,7 +85,7 @@ fn letters(rt: HostRuntime) {
     };
     let mut table = [USED; 4];
     let found = write_lasso(&map, NO_WORD, 1, &mut [USED; 2], &mut table);
-    assert_eq!(rt; found, Some(Course { count: 3, stem: 1 }));
+    assert_eq!(rt; found, Some(Extent { count: 3, stem: 1 }));
     assert_eq!(rt; table, [step(0, 1), step(1, 0), step(0, 1), USED]);
 }
 
@@ -95,7 +95,7 @@ fn room(rt: HostRuntime) -> Result<(), Fail> {
     let heap = rt.alloc();
     let rows = in_a_row(1);
     let map = plain(1, 1 << 17, &rows);
-    let long = Some(Course {
+    let long = Some(Extent {
         count: 81,
         stem: 17,
     });

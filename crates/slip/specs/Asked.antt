@@ -1,6 +1,7 @@
 -- What the questions of an inspection ask.
 use Rattle.std.specs.Prelude.{◌≡◌, ℕ, ◌+◌, ◌<◌, Bool, true, false, List, length, Some, None, Option, slice_index_or}
 use Rattle.graph.specs.Graphs.{Graph}
+use Rattle.graph.specs.Implicit.{graph_of}
 use Rattle.rules.specs.Numbered.{rule_kind, rule_number}
 use Rattle.rules.specs.declared.BreakRule.{BreakRule}
 use Rattle.rules.specs.declared.KeepRule.{KeepRule}
@@ -10,17 +11,6 @@ use Rattle.search.specs.Tables.{blank, node_at, measure_at}
 use Rattle.slip.specs.Certificates.{Certificate}
 use Rattle.slip.specs.Rules.{KeepHolds, BreakHolds, Holds}
 use Rattle.slip.specs.declared.inspection.Inspection.{Inspection}
-use Rattle.slip.specs.declared.inspection.Nodes.{Nodes}
-use Rattle.slip.specs.declared.inspection.Nodes.TheVariants.{Starts, Successors}
-
--- the graph that a slip is inspected over
-abbrev pub graph_of : {M : Type 0} → (M → List ℕ → ℕ → Graph) → Inspection M → Graph
-graph_of graph s = graph s.map.now s.word.elements.now s.word.stem
-
--- these nodes of a graph
-abbrev pub among : Graph → Nodes → ℕ → Bool
-among g Starts = g.start
-among g (Successors v letter) = g.edge v letter
 
 -- the record stands at place p
 abbrev pub StandsAt : List Record → ℕ → Record → Type 0
@@ -42,10 +32,10 @@ limit false m = m + 1
 
 -- the rules of keep slips and those of break slips, as an inspection asks them at place p
 abbrev pub MeetsKeep : {M : Type 0} → (M → List ℕ → ℕ → Graph) → Inspection M → ℕ → KeepRule → Type 0
-MeetsKeep graph s = KeepHolds (graph_of graph s) s.slip.records.now
+MeetsKeep graph s = KeepHolds (graph_of graph s.graph) s.slip.records.now
 
 abbrev pub MeetsBreak : {M : Type 0} → (M → List ℕ → ℕ → Graph) → Inspection M → ℕ → BreakRule → Type 0
-MeetsBreak graph s = BreakHolds (graph_of graph s) s.slip.records.now s.slip.stem
+MeetsBreak graph s = BreakHolds (graph_of graph s.graph) s.slip.records.now s.slip.stem
 
 -- the rule of the lowest number that does not hold, if there is one
 abbrev pub Lowest : {R : Type 0} → (R → ℕ) → (R → Type 0) → Option R → Type 0

@@ -1,15 +1,15 @@
 // Which rule a slip breaks first.
 ghost use Rattle.std.specs.Prelude.{◌≡◌, ℕ, ◌<◌, ◌≤◌, true, length, Decides, MatchOption};
-ghost use Rattle.graph.specs.Least.{Least};
+ghost use Rattle.graph.specs.Implicit.{graph_of, among};
 ghost use Rattle.lasso.specs.Positions.{after};
 ghost use Rattle.rules.specs.Numbered.{keep_number, break_number};
 ghost use Rattle.search.specs.Tables.{node_at};
-ghost use Rattle.slip.specs.Asked.{graph_of, among, Within, Held, limit, MeetsKeep, MeetsBreak, Lowest, LowestAt, StandsAt};
+ghost use Rattle.slip.specs.Asked.{Within, Held, limit, MeetsKeep, MeetsBreak, Lowest, LowestAt, StandsAt};
 ghost use Rattle.slip.specs.Certificates.{content};
 ghost use Rattle.slip.specs.Rules.{Meets, FirstBreach};
 
 use crate::slips::Slip;
-use graph::Map;
+use graph::{ImplicitGraph, Map, Nodes};
 use lasso::{Lasso, Word};
 use rules::{Breach, BreakRule, KeepRule, Kind, Rule};
 use search::Record;
@@ -24,39 +24,14 @@ fn is_within(measure: u32, limit: Option<u64>) -> bool
     }
 }
 
-// Which nodes are asked for: the starts, or those that edges with a letter lead to from a node.
-#[derive(Clone, Copy)]
-pub(crate) enum Nodes {
-    Starts,
-    Successors(u64, u8),
-}
-
-// A slip, and the graph that it is inspected over: a map, and the word that each question to it is handed.
+// A slip, and the graph that it is inspected over.
 #[derive_where(Clone, Copy)]
 pub(crate) struct Inspection<'a, M> {
-    map: &'a M,
-    word: Word<'a>,
+    graph: ImplicitGraph<'a, M>,
     slip: Slip<'a>,
 }
 
 impl<'a, M: Map> Inspection<'a, M> {
-    // The least of these nodes that is not below `from`.
-    fn least(&self, nodes: Nodes, from: u64) -> Option<u64>
-        ensures { Least (among (graph_of M.Map.graph self.now) nodes) from result }
-    {
-        match nodes {
-            Nodes::Starts => self.map.least_start(self.word, from),
-            Nodes::Successors(node, letter) => self.map.least_next(self.word, node, letter, from),
-        }
-    }
-
-    // Does an edge with this letter lead from one node to the other?
-    fn is_edge(&self, node: u64, letter: u8, next: u64) -> bool
-        ensures { Decides result ((graph_of M.Map.graph self.now).edge node letter next ≡ true) }
-    {
-        self.map.least_next(self.word, node, letter, next) == Some(next)
-    }
-
     // Has a record this node, with a measure below the limit, if there is one? A slip has no index of its nodes: this goes
     // through the records, and is the only function that does so to find a node.
     fn is_held(&self, node: u64, limit: Option<u64>) -> bool
@@ -67,27 +42,22 @@ impl<'a, M: Map> Inspection<'a, M> {
 
     // Is each of these nodes held, with a measure below the limit, if there is one?
     fn are_held(&self, nodes: Nodes, limit: Option<u64>) -> bool
-        ensures { Decides result ((v : ℕ) → among (graph_of M.Map.graph self.now) nodes v ≡ true → Held self.now.slip.records.now limit v) }
+        ensures { Decides result ((v : ℕ) → among (graph_of M.Map.graph self.now.graph) nodes v ≡ true → Held self.now.slip.records.now limit v) }
     {
-        let mut from = 0;
-        while let Some(node) = self.least(nodes, from) {
+        for node in self.graph.rising(nodes) {
             if !self.is_held(node, limit) {
                 return false;
             }
-            let Some(after) = node.checked_add(1) else {
-                return true;
-            };
-            from = after;
         }
         true
     }
 
     // What the measures behind a record's edges are below.
     fn limit(&self, entry: Record) -> u64
-        ensures { result ≡ limit ((graph_of M.Map.graph self.now).marked entry.node) entry.measure }
+        ensures { result ≡ limit ((graph_of M.Map.graph self.now.graph).marked entry.node) entry.measure }
     {
         let measure = u64::from(entry.measure);
-        if self.map.is_marked(self.word, entry.node) {
+        if self.graph.is_marked(entry.node) {
             measure
         } else {
             measure + 1
@@ -96,9 +66,9 @@ impl<'a, M: Map> Inspection<'a, M> {
 
     // Is each node held to which an edge leads from a node, by any letter?
     fn are_successors_held(&self, node: u64, limit: Option<u64>) -> bool
-        ensures { Decides result ((l : ℕ) → l < (graph_of M.Map.graph self.now).letters → (v : ℕ) → (graph_of M.Map.graph self.now).edge node l v ≡ true → Held self.now.slip.records.now limit v) }
+        ensures { Decides result ((l : ℕ) → l < (graph_of M.Map.graph self.now.graph).letters → (v : ℕ) → (graph_of M.Map.graph self.now.graph).edge node l v ≡ true → Held self.now.slip.records.now limit v) }
     {
-        for letter in 0..self.map.letters(self.word) {
+        for letter in 0..self.graph.letters() {
             if !self.are_held(Nodes::Successors(node, letter), limit) {
                 return false;
             }
@@ -110,7 +80,7 @@ impl<'a, M: Map> Inspection<'a, M> {
     fn meets_keep_node(&self, entry: Record) -> bool
         ensures { (place : ℕ) → StandsAt self.now.slip.records.now place entry → Decides result (MeetsKeep M.Map.graph self.now place KeepRule.Node) }
     {
-        self.map.is_node(self.word, entry.node) && entry.letter == 0
+        self.graph.is_node(entry.node) && entry.letter == 0
     }
 
     // Does each successor of a record's node have a record, with a measure that falls where it should?
@@ -149,9 +119,7 @@ impl<'a, M: Map> Inspection<'a, M> {
     fn meets_break_node(&self, entry: Record) -> bool
         ensures { (place : ℕ) → StandsAt self.now.slip.records.now place entry → Decides result (MeetsBreak M.Map.graph self.now place BreakRule.Node) }
     {
-        self.map.is_node(self.word, entry.node)
-            && entry.letter < self.map.letters(self.word)
-            && entry.measure == 0
+        self.graph.is_node(entry.node) && entry.letter < self.graph.letters() && entry.measure == 0
     }
 
     // Has the record a start, if it is the first?
@@ -159,7 +127,7 @@ impl<'a, M: Map> Inspection<'a, M> {
         requires { StandsAt self.now.slip.records.now place entry }
         ensures { Decides result (MeetsBreak M.Map.graph self.now place BreakRule.Start) }
     {
-        place > 0 || self.map.is_start(self.word, entry.node)
+        place > 0 || self.graph.is_start(entry.node)
     }
 
     // The place after a place, in the lasso that the records of a break slip are.
@@ -181,7 +149,7 @@ impl<'a, M: Map> Inspection<'a, M> {
         ensures { Decides result (MeetsBreak M.Map.graph self.now place BreakRule.Next) }
     {
         let next = self.slip.records[self.after(place)];
-        self.is_edge(entry.node, entry.letter, next.node)
+        self.graph.is_edge(entry.node, entry.letter, next.node)
     }
 
     // The first rule that a record of a break slip breaks.
@@ -202,17 +170,15 @@ impl<'a, M: Map> Inspection<'a, M> {
 
     // Has one of these records a marked node?
     fn has_mark(&self, records: &[Record]) -> bool
-        ensures { Decides result ((k : ℕ) × (k < length records.now) × ((graph_of M.Map.graph self.now).marked (node_at records.now k) ≡ true)) }
+        ensures { Decides result ((k : ℕ) × (k < length records.now) × ((graph_of M.Map.graph self.now.graph).marked (node_at records.now k) ≡ true)) }
     {
-        records
-            .iter()
-            .any(|entry| self.map.is_marked(self.word, entry.node))
+        records.iter().any(|entry| self.graph.is_marked(entry.node))
     }
 
     // Has a record a marked node, at this place or behind it?
     fn has_mark_from(&self, place: usize) -> bool
         requires { place ≤ length self.now.slip.records.now }
-        ensures { Decides result ((k : ℕ) × (place ≤ k) × (k < length self.now.slip.records.now) × ((graph_of M.Map.graph self.now).marked (node_at self.now.slip.records.now k) ≡ true)) }
+        ensures { Decides result ((k : ℕ) × (place ≤ k) × (k < length self.now.slip.records.now) × ((graph_of M.Map.graph self.now.graph).marked (node_at self.now.slip.records.now k) ≡ true)) }
     {
         self.has_mark(&self.slip.records[place..])
     }
@@ -232,7 +198,7 @@ impl<'a, M: Map> Inspection<'a, M> {
     // The first rule that a record breaks.
     fn record_breach(&self, place: usize, entry: Record) -> Option<Rule>
         requires { StandsAt self.now.slip.records.now place entry }
-        ensures { LowestAt (graph_of M.Map.graph self.now) (content self.now.slip) place result }
+        ensures { LowestAt (graph_of M.Map.graph self.now.graph) (content self.now.slip) place result }
     {
         match self.slip.kind {
             Kind::Keep => self.keep_breach(place, entry).map(Rule::Keep),
@@ -242,7 +208,7 @@ impl<'a, M: Map> Inspection<'a, M> {
 
     // The first rule that the records break together.
     fn end_breach(&self) -> Option<Rule>
-        ensures { LowestAt (graph_of M.Map.graph self.now) (content self.now.slip) (length self.now.slip.records.now) result }
+        ensures { LowestAt (graph_of M.Map.graph self.now.graph) (content self.now.slip) (length self.now.slip.records.now) result }
     {
         match self.slip.kind {
             Kind::Keep => self.keep_end_breach().map(Rule::Keep),
@@ -257,8 +223,7 @@ impl<'a> Slip<'a> {
         ensures { MatchOption result (Meets (M.Map.graph map.now word.entry.elements.now word.entry.stem) (content self.now)) (FirstBreach (M.Map.graph map.now word.entry.elements.now word.entry.stem) (content self.now)) }
     {
         let inspection = Inspection {
-            map,
-            word,
+            graph: ImplicitGraph { map, word },
             slip: *self,
         };
         for (place, &entry) in self.records.iter().enumerate() {

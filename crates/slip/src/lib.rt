@@ -5,4 +5,4 @@ mod inspection;
 mod slips;
 
 pub use search::Record;
-pub use slips::Slip;
+pub use slips::{Slip, stems};

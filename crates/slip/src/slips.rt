@@ -1,9 +1,19 @@
 // A slip over records that are lent.
-ghost use Rattle.std.specs.Prelude.{◌<◌, ◌≤◌, length};
+ghost use Rattle.std.specs.Prelude.{◌≡◌, ◌<◌, ◌≤◌, length};
 ghost use Rattle.slip.specs.Shapes.{stems};
 
 use rules::Kind;
 use search::Record;
+
+// The loop place of a slip is below this number: it is 0 for keep, and the place of one of so many records for break.
+pub fn stems(kind: Kind, count: usize) -> usize
+    ensures { result ≡ stems kind count }
+{
+    match kind {
+        Kind::Keep => 1,
+        Kind::Break => count,
+    }
+}
 
 // Records, and the place from which they repeat for ever, which is 0 where they show keep.
 #[derive(Clone, Copy)]
@@ -16,7 +26,7 @@ pub struct Slip<'a> {
 }
 
 impl<'a> Slip<'a> {
-    ghost use Rattle.std.specs.Prelude.{◌≡◌, MatchOption};
+    ghost use Rattle.std.specs.Prelude.{MatchOption};
     ghost use Rattle.slip.specs.Shapes.{Shaped};
     ghost use Rattle.slip.specs.Certificates.{content};
 
@@ -25,11 +35,7 @@ impl<'a> Slip<'a> {
     pub fn new(kind: Kind, stem: usize, records: &'a [Record]) -> Option<Slip<'a>>
         ensures { MatchOption result (Shaped kind (length records.now) stem → ⊥) (λ s. content s ≡ record { kind = kind; stem = stem; records = records.now }) }
     {
-        let stems = match kind {
-            Kind::Keep => 1,
-            Kind::Break => records.len(),
-        };
-        if stem < stems && records.len() <= 131_072 {
+        if stem < stems(kind, records.len()) && records.len() <= 131_072 {
             Some(Slip {
                 kind,
                 stem,

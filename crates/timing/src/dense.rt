@@ -1,6 +1,6 @@
-// Pairs of charts with as many edges as were found for about 512 and 1,024 nodes. In each the duty steps from every state to
-// every state by every letter; the rules came from random changes for the most edges, and were then made plain. Bits beyond a
-// chart's states say nothing.
+// Pairs of charts with as many edges as were found for about 512 and 1,024 nodes, by one letter (`wide`) and by 16 (`dense`). In each
+// the duty steps from every state to every state by every letter; the rules came from random changes for the most edges, and were
+// then made plain. Bits beyond a chart's states say nothing.
 use crate::charts::{Pair, Sheet};
 
 // Every state is stepped to from every state, by every letter.
@@ -12,6 +12,9 @@ const LOOP: [u32; 96] = [
     0, 0, 0, 0, 0, 0, 0, 0, 0, 0, 0, 0, 0, 0, 0, 0, 0, 0, 0, 0, 0, 0, 0, 0, 0, 0, 0, 0, 0, 0, 0, 0,
     0, 0, 0, 0, 0, 0, 0, 0, 0, 0, 0, 0, 0, 0, 0, 0, 0, 0, 0, 0, 0, 0, 0, 0, 0, 0, 0, 0, 0, 0, 0, 0,
 ];
+
+// State 0 steps to itself and to state 1, by the one letter.
+const FORK_BY_ONE: [u32; 6] = [3, 0, 0, 0, 0, 0];
 
 // State 0 steps to itself and to state 1 by each letter.
 const FORK: [u32; 96] = [
@@ -27,7 +30,41 @@ const SWITCH: [u32; 96] = [
     0, 0, 0, 0, 0, 0, 0, 0, 0, 0, 0, 0, 0, 0, 0, 0, 0, 0, 0, 0, 0, 0, 0, 0, 0, 0, 0, 0, 0, 0, 0, 0,
 ];
 
-pub const DENSE: [Pair; 6] = [
+pub const DENSE: [Pair; 8] = [
+    Pair {
+        name: "wide-2-512-keep",
+        duty: Sheet {
+            states: 32,
+            letters: 1,
+            starts: 0xffff_ffff,
+            marks: 0,
+            rows: &ALL,
+        },
+        rule: Sheet {
+            states: 2,
+            letters: 1,
+            starts: 0b1,
+            marks: 0b1,
+            rows: &FORK_BY_ONE,
+        },
+    },
+    Pair {
+        name: "wide-5-1024-keep",
+        duty: Sheet {
+            states: 28,
+            letters: 1,
+            starts: 0xffff,
+            marks: 0,
+            rows: &ALL,
+        },
+        rule: Sheet {
+            states: 5,
+            letters: 1,
+            starts: 0b1,
+            marks: 0b11,
+            rows: &FORK_BY_ONE,
+        },
+    },
     Pair {
         name: "dense-2-512-keep",
         duty: Sheet {

@@ -4,7 +4,7 @@ use crate::charts::{PAIRS, Pair, Sheet};
 use crate::dense::DENSE;
 use crate::walks::count_edges;
 use anyhow::anyhow;
-use bench::{Bench, State};
+use bench::Bench;
 use chart::Table;
 use lasso::NO_WORD;
 use ranked::RankedMap;
@@ -86,14 +86,8 @@ fn judge(rt: &HostRuntime, pair: &Pair, nodes: usize) -> anyhow::Result<(usize, 
     let inspected = bench.inspect(slip.as_slice());
     let inspecting = begun.elapsed(rt)?.as_micros();
     inspected.map_err(|_| anyhow!("the slip does not pass"))?;
-    Ok((count_of(bench.state()), judging, inspecting))
-}
-
-fn count_of(state: State) -> usize {
-    match state {
-        State::Empty => 0,
-        State::Drafted(form) | State::Passed(form) => form.count,
-    }
+    let count = bench.state().form().map_or(0, |form| form.count);
+    Ok((count, judging, inspecting))
 }
 
 // A pair's line. The search has a table of 65,536 records.

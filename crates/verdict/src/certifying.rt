@@ -1,5 +1,5 @@
 // What a passed slip is handed out for. The contracts here are proved from those of the bench's calls.
-ghost use Rattle.std.specs.Prelude.{◌≡◌, MatchResult};
+ghost use Rattle.std.specs.Prelude.{◌≡◌, ◌≤◌, length, take, MatchResult};
 ghost use Rattle.bench.specs.States.{stem_of};
 ghost use Rattle.verdict.specs.Certified.{Certifies, Confirms, ConfirmRefused, DecideRefused};
 
@@ -21,10 +21,18 @@ pub struct Certified<'a> {
 fn stem_of(state: State) -> usize
     ensures { result ≡ stem_of state }
 {
-    match state {
-        State::Empty => 0,
-        State::Drafted(form) | State::Passed(form) => form.stem,
+    match state.form() {
+        Some(form) => form.stem,
+        None => 0,
     }
+}
+
+// The records before the loop place of the slip on a bench.
+fn before_loop(state: State, table: &[Record]) -> &[Record]
+    requires { stem_of state ≤ length table.now }
+    ensures { result.now ≡ take (stem_of state) table.now }
+{
+    &table[..stem_of(state)]
 }
 
 // Does the rule take every repeating word that the duty takes? Refused by 5 where the charts differ in letters, then by 6 where the
@@ -43,7 +51,7 @@ pub fn decide<'a, D: Chart + Drop, R: Chart + Drop>(
     let verdict = bench.judge(table, work)?;
     bench.inspect(table)?;
     let released = bench.release(table)?;
-    let stem = &table[..stem_of(bench.state())];
+    let stem = before_loop(bench.state(), table);
     Ok(Certified {
         verdict,
         stem,

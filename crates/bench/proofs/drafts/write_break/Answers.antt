@@ -11,5 +11,5 @@ returns g c =
     let n = length c.args.work.now in
     let written =
     subst (λ r. MatchOption r (NotWritten graph c.args.node n (length was)) (Written graph n was c.write_lasso.new.table))
-    c.unwrap-course.ensures c.write_lasso.ensures in
-    break_wrote graph n (g.M.Map.bounds c.args.map.now [] 0) was c.write_lasso.new.table c.unwrap-course.result written
+    c.unwrap-extent.ensures c.write_lasso.ensures in
+    rw c.of_lasso.ensures (break_wrote graph n (g.M.Map.bounds c.args.map.now [] 0) was c.write_lasso.new.table c.unwrap-extent.result written)

@@ -12,4 +12,4 @@ returns g c =
     handed_out g.D.Chart.meaning g.R.Chart.meaning _ _ c.args.room c.in_ok-bench.bench c.judge.new.self c.inspect.new.self c.args.table.now
     c.args.work.now c.judge.new.table c.judge.new.work c.in_ok-verdict.verdict c.in_ok-bench.ensures.law c.in_ok-bench.ensures.answer.same_room
     c.in_ok-verdict.ensures.answer c.in_ok-verdict.ensures.law c.in_ok-inspect.ensures.law _ refl c.in_ok-released.ensures.hands
-    (ap (λ n. take n c.judge.new.table) (c.stem_of.ensures ∙ ap stem_of c.state.ensures))
+    (c.before_loop-stem.ensures ∙ ap (λ s. take (stem_of s) c.judge.new.table) c.state.ensures)

@@ -1,11 +1,11 @@
 use Rattle.std.proofs.Common.{◌≡◌, ◌<◌, true, Some, None, ap, ◌∙◌, subst, arith, rules}
-use Rattle.search.specs.declared.graphs.Rising.{Rising}
+use Rattle.graph.specs.declared.implicit.Rising.{Rising}
 use Rattle.search.specs.declared.records.Record.{Record}
-use Rattle.search.specs.Graphs.{graph_of, among}
-use Rattle.search.specs.Rising.{Passed}
+use Rattle.graph.specs.Implicit.{graph_of, among}
+use Rattle.graph.specs.Ascending.{Passed}
 use Rattle.search.specs.Trips.{graph_for, Halted}
 use Rattle.search.proofs.Queueing.{no_room, taken_none, taken_next, taken_all, leads_more}
-use Rattle.search.proofs.Rising.{next_of}
+use Rattle.graph.proofs.Ascending.{next_of}
 use Rattle.search.proofs.queues.Queue.add_all.Goals as goal
 
 pub loop-node-init : goal.loop-node-init

@@ -1,7 +1,7 @@
 use Rattle.std.proofs.Common.{◌≡◌, true}
 use Rattle.search.specs.Changes.{SameTable}
-use Rattle.search.specs.Graphs.{graph_of, among}
-use Rattle.search.specs.Rising.{Passed}
+use Rattle.graph.specs.Implicit.{graph_of, among}
+use Rattle.graph.specs.Ascending.{Passed}
 use Rattle.search.specs.Trips.{graph_for, Taken}
 use Rattle.search.proofs.queues.Queue.add_all.Given as goal
 

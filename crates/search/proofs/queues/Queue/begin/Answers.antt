@@ -2,7 +2,7 @@ use Rattle.std.proofs.Common.{◌≡◌, ℕ, true, refl, sym, subst, inl}
 use Rattle.std.proofs.lemmas.Bool.{eq-eqb, eqb-true}
 use Rattle.graph.specs.Walks.{begin}
 use Rattle.search.specs.declared.records.Record.{Record}
-use Rattle.search.specs.Graphs.{graph_of}
+use Rattle.graph.specs.Implicit.{graph_of}
 use Rattle.search.specs.Trips.{begins, graph_for, Added, NoRoom, Taken, Begun, Halted}
 use Rattle.search.proofs.Queueing.{grown, no_room, taken_all, begun_starts, begun_node, queued_none, match_both}
 use Rattle.search.proofs.queues.Queue.begin.Goals as goal

@@ -1,7 +1,7 @@
 use Rattle.std.proofs.Common.{◌<◌, ◌+◌, refl, ◌∙◌, arith}
 use Rattle.graph.specs.Walks.{Edge}
 use Rattle.search.specs.declared.records.Record.{Record}
-use Rattle.search.specs.Graphs.{graph_of}
+use Rattle.graph.specs.Implicit.{graph_of}
 use Rattle.search.specs.Tables.{node_at}
 use Rattle.search.specs.Trips.{graph_for}
 use Rattle.search.specs.Weights.{ByLetters}

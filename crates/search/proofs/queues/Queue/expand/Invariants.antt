@@ -1,5 +1,5 @@
 use Rattle.search.specs.Changes.{SameTable}
-use Rattle.search.specs.Graphs.{graph_of}
+use Rattle.graph.specs.Implicit.{graph_of}
 use Rattle.search.specs.Trips.{graph_for, Taken}
 use Rattle.search.specs.Weights.{ByLetters}
 use Rattle.search.proofs.queues.Queue.expand.Given as goal

@@ -1,6 +1,6 @@
 use Rattle.std.proofs.Common.{refl, arith}
 use Rattle.std.proofs.lemmas.Bool.{both_ways}
-use Rattle.search.specs.Graphs.{graph_of}
+use Rattle.graph.specs.Implicit.{graph_of}
 use Rattle.search.proofs.Assessing.{weight_fits, assess_plain, assess_lone, assess_cycle}
 use Rattle.search.proofs.spots.Search.assess_new.Goals as goal
 

@@ -1,5 +1,5 @@
 use Rattle.std.proofs.Common.{◌≡◌, ◌<◌, sym, ap, subst, arith}
-use Rattle.search.specs.Graphs.{graph_of}
+use Rattle.graph.specs.Implicit.{graph_of}
 use Rattle.search.specs.Tables.{letter_at}
 use Rattle.search.proofs.Retiring.{step_emptied, step_retired}
 use Rattle.search.proofs.spots.Search.close.Goals as goal

@@ -1,5 +1,5 @@
 use Rattle.std.proofs.Common.{sym, ap, subst, arith}
-use Rattle.search.specs.Graphs.{graph_of}
+use Rattle.graph.specs.Implicit.{graph_of}
 use Rattle.search.specs.Surveys.{Collected, Told}
 use Rattle.search.proofs.Visiting.{collected, told, room}
 use Rattle.search.proofs.spots.Search.collect.Goals as goal

@@ -1,5 +1,5 @@
 use Rattle.search.specs.Changes.{SameTable}
-use Rattle.search.specs.Graphs.{graph_of}
+use Rattle.graph.specs.Implicit.{graph_of}
 use Rattle.search.specs.Searches.{Going, Keeps, ahead}
 use Rattle.search.proofs.spots.Search.explore.Given as goal
 

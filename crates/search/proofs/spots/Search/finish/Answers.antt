@@ -1,5 +1,5 @@
 use Rattle.std.proofs.Common.{arith}
-use Rattle.search.specs.Graphs.{graph_of}
+use Rattle.graph.specs.Implicit.{graph_of}
 use Rattle.search.proofs.spots.Search.finish.Goals as goal
 
 pub returns-then-low_link-cur-clause-stepped : goal.returns-then-low_link-cur-clause-stepped

@@ -2,7 +2,7 @@ use Rattle.std.proofs.Common.{◌≡◌, ◌-◌, ◌≤◌, List, length, take,
 use Rattle.std.proofs.lemmas.Iterator.{first_from_find, YieldsList-from_slice, YieldsList-from_map}
 use Rattle.std.proofs.lemmas.List.{length-take-le}
 use Rattle.search.specs.declared.records.Record.{Record}
-use Rattle.search.specs.Graphs.{graph_of}
+use Rattle.graph.specs.Implicit.{graph_of}
 use Rattle.search.proofs.Parts.{get_or-part, marked_in_part}
 use Rattle.search.proofs.spots.Search.first_marked.Goals as goal
 

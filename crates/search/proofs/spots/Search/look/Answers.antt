@@ -1,5 +1,5 @@
 use Rattle.std.proofs.Common.{arith}
-use Rattle.search.specs.Graphs.{graph_of}
+use Rattle.graph.specs.Implicit.{graph_of}
 use Rattle.search.specs.Tables.{letter_at}
 use Rattle.search.proofs.Moves.{changed_quiet, changed_letter, quiet_join, searching_turn, searching_met, met_quiet, met_letter, searching_resumed, resumed_quiet, left_turn, left_resumed}
 use Rattle.search.proofs.spots.Search.look.Goals as goal

@@ -1,6 +1,6 @@
 use Rattle.std.proofs.Common.{sym, subst}
 use Rattle.search.specs.Changes.{Risen}
-use Rattle.search.specs.Graphs.{graph_of}
+use Rattle.graph.specs.Implicit.{graph_of}
 use Rattle.search.specs.Weights.{Retired}
 use Rattle.search.proofs.Retiring.{retired_worth}
 use Rattle.search.proofs.spots.Search.retire.Goals as goal

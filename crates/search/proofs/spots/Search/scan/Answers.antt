@@ -1,6 +1,6 @@
 use Rattle.std.proofs.Common.{◌≡◌, ◌∙◌, sym, subst}
 use Rattle.search.specs.Changes.{Quiet}
-use Rattle.search.specs.Graphs.{graph_of}
+use Rattle.graph.specs.Implicit.{graph_of}
 use Rattle.search.specs.Searches.{Searching}
 use Rattle.search.proofs.Moves.{quiet_join}
 use Rattle.search.proofs.spots.Search.scan.Goals as goal

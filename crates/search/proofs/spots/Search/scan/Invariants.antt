@@ -1,5 +1,5 @@
 use Rattle.search.specs.Changes.{SameTable, Quiet}
-use Rattle.search.specs.Graphs.{graph_of}
+use Rattle.graph.specs.Implicit.{graph_of}
 use Rattle.search.specs.Searches.{Searching, IsFurther, left}
 use Rattle.search.specs.Tables.{letter_at}
 use Rattle.search.proofs.spots.Search.scan.Given as goal

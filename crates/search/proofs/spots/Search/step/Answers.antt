@@ -1,4 +1,4 @@
-use Rattle.search.specs.Graphs.{graph_of}
+use Rattle.graph.specs.Implicit.{graph_of}
 use Rattle.search.proofs.Stepping.{explored_scanned, step_finished, step_new}
 use Rattle.search.proofs.spots.Search.step.Goals as goal
 

@@ -1,7 +1,7 @@
 use Rattle.std.proofs.Common.{◌∙◌, Some}
-use Rattle.search.specs.declared.graphs.Nodes.TheVariants.{Starts}
-use Rattle.search.specs.Graphs.{graph_of}
-use Rattle.search.proofs.Rising.{next_of}
+use Rattle.graph.specs.declared.implicit.Nodes.TheVariants.{Starts}
+use Rattle.graph.specs.Implicit.{graph_of}
+use Rattle.graph.proofs.Ascending.{next_of}
 use Rattle.search.proofs.Visiting.{starts_more}
 use Rattle.search.proofs.spots.Search.sweep.Goals as goal
 

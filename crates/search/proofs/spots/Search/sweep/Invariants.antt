@@ -1,8 +1,8 @@
 use Rattle.std.proofs.Common.{◌≡◌, ℕ, true, length}
-use Rattle.search.specs.declared.graphs.Nodes.TheVariants.{Starts}
+use Rattle.graph.specs.declared.implicit.Nodes.TheVariants.{Starts}
 use Rattle.search.specs.Changes.{SameTable}
-use Rattle.search.specs.Graphs.{graph_of}
-use Rattle.search.specs.Rising.{Passed}
+use Rattle.graph.specs.Implicit.{graph_of}
+use Rattle.graph.specs.Ascending.{Passed}
 use Rattle.search.specs.Searches.{Going}
 use Rattle.search.specs.Tables.{node_at}
 use Rattle.search.specs.Trees.{At}

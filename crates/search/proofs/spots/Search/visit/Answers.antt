@@ -1,6 +1,6 @@
 use Rattle.std.proofs.Common.{length, rules}
 use Rattle.std.proofs.lemmas.Bool.{both_ways}
-use Rattle.search.specs.Graphs.{graph_of}
+use Rattle.graph.specs.Implicit.{graph_of}
 use Rattle.search.specs.Searches.{TooMany}
 use Rattle.search.proofs.Visiting.{not_done, begin_start, begin_crowded}
 use Rattle.search.proofs.spots.Search.visit.Goals as goal

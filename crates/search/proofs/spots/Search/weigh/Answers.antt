@@ -1,7 +1,7 @@
 use Rattle.std.proofs.Common.{◌≡◌, ◌+◌, ◌-◌, ◌<◌, length, drop, ap, subst, arith, length-drop}
 use Rattle.std.proofs.lemmas.List.{length-take-le}
 use Rattle.graph.specs.Walks.{Edge}
-use Rattle.search.specs.Graphs.{graph_of}
+use Rattle.graph.specs.Implicit.{graph_of}
 use Rattle.search.specs.Tables.{node_at, measure_at}
 use Rattle.search.specs.Trees.{Heavy, Follows}
 use Rattle.search.proofs.Parts.{get_or-part}

@@ -1,7 +1,7 @@
 use Rattle.std.proofs.Common.{◌∙◌, Some}
-use Rattle.search.specs.declared.graphs.Nodes.TheVariants.{Successors}
-use Rattle.search.specs.Graphs.{graph_of}
-use Rattle.search.proofs.Rising.{next_of}
+use Rattle.graph.specs.declared.implicit.Nodes.TheVariants.{Successors}
+use Rattle.graph.specs.Implicit.{graph_of}
+use Rattle.graph.proofs.Ascending.{next_of}
 use Rattle.search.proofs.Weighing.{heavy_step}
 use Rattle.search.proofs.spots.Search.weigh_letter.Goals as goal
 

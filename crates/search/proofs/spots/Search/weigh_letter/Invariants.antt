@@ -1,6 +1,6 @@
 use Rattle.std.proofs.Common.{◌≡◌, length}
-use Rattle.search.specs.declared.graphs.Nodes.TheVariants.{Successors}
-use Rattle.search.specs.Graphs.{graph_of}
+use Rattle.graph.specs.declared.implicit.Nodes.TheVariants.{Successors}
+use Rattle.graph.specs.Implicit.{graph_of}
 use Rattle.search.specs.Tables.{node_at, measure_at}
 use Rattle.search.specs.Trees.{Heavy}
 use Rattle.search.specs.Weights.{Below}

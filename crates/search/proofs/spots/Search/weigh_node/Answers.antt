@@ -1,4 +1,4 @@
-use Rattle.search.specs.Graphs.{graph_of}
+use Rattle.graph.specs.Implicit.{graph_of}
 use Rattle.search.proofs.Weighing.{heavy_letter}
 use Rattle.search.proofs.spots.Search.weigh_node.Goals as goal
 

@@ -2,13 +2,13 @@ use Rattle.std.proofs.Common.{◌≡◌, ℕ, ◌-◌, ◌<◌, true, List, leng
 use Rattle.std.proofs.lemmas.List.{take_all}
 use Rattle.search.specs.declared.records.Record.{Record}
 use Rattle.search.specs.Tables.{node_at}
-use Rattle.slip.specs.Asked.{graph_of}
+use Rattle.graph.specs.Implicit.{graph_of}
 use Rattle.slip.proofs.Sweeps.{marked_behind}
 use Rattle.slip.proofs.inspection.Inspection.has_mark_from.Goals as goal
 
 pub returns : goal.returns
 returns g c =
-    let m = graph_of g.M.Map.graph c.args.self.now in
+    let m = graph_of g.M.Map.graph c.args.self.now.graph in
     let rs : List Record = c.args.self.now.slip.records.now in
     let p = c.args.place in
     let Found : List Record → Type 0 = λ part. (k : ℕ) × (k < length part) × (m.marked (node_at part k) ≡ true) in

@@ -1,12 +1,12 @@
 use Rattle.std.proofs.Common.{◌≡◌, ℕ, ◌<◌, true, Decides, refl, subst, arith, rules, tests}
 use Rattle.std.proofs.lemmas.Iterator.{cases_from_any, YieldsList-from_range}
-use Rattle.search.specs.Graphs.{graph_of}
+use Rattle.graph.specs.Implicit.{graph_of}
 use Rattle.search.proofs.Parts.{some_below}
-use Rattle.search.proofs.graphs.ImplicitGraph.has_self.Goals as goal
+use Rattle.search.proofs.weights.has_self.Goals as goal
 
 pub returns : goal.returns
 returns g c =
-    let m = graph_of g.M.Map.graph c.args.self.now in
+    let m = graph_of g.M.Map.graph c.args.graph.now in
     let Home : ℕ → Type 0 = λ l. m.edge c.args.node l c.args.node ≡ true in
     subst (λ n. Decides c.any.result ((l : ℕ) × (l < n) × Home l)) c.letters.ensures
     (some_below c.letters.result Home c.any.result

@@ -1,7 +1,7 @@
 use Rattle.std.proofs.Common.{refl}
-use Rattle.search.specs.Graphs.{graph_of, among}
-use Rattle.search.proofs.Rising.{among_below, next_found}
-use Rattle.search.proofs.graphs.RisingIterator.next.Goals as goal
+use Rattle.graph.specs.Implicit.{graph_of, among}
+use Rattle.graph.proofs.Ascending.{among_below, next_found}
+use Rattle.graph.proofs.implicit.RisingIterator.next.Goals as goal
 
 pub returns-clause-steps : goal.returns-clause-steps
 returns-clause-steps g c =

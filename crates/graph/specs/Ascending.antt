@@ -2,8 +2,8 @@
 use Rattle.std.specs.Prelude.{◌≡◌, ℕ, ◌-◌, ◌^◌, ◌<◌, Bool, true, List, Some, None, Option, ◌⊎◌}
 use Rattle.std.specs.Iterator.{Count, at_most}
 use Rattle.graph.specs.Graphs.{Graph}
-use Rattle.search.specs.declared.graphs.Rising.{Rising}
-use Rattle.search.specs.Graphs.{graph_of, among}
+use Rattle.graph.specs.declared.implicit.Rising.{Rising}
+use Rattle.graph.specs.Implicit.{graph_of, among}
 
 -- w is below where they go on, and nothing is left of them if that is nowhere
 abbrev pub Passed : Option ℕ → ℕ → Type 0

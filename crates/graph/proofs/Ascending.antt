@@ -4,12 +4,12 @@ use Rattle.std.proofs.lemmas.Bool.{cases_lt}
 use Rattle.std.specs.Option.{SomeIff}
 use Rattle.graph.specs.Graphs.{Graph, Bounded}
 use Rattle.graph.specs.Least.{Least}
-use Rattle.search.specs.declared.graphs.ImplicitGraph.{ImplicitGraph}
-use Rattle.search.specs.declared.graphs.Nodes.{Nodes}
-use Rattle.search.specs.declared.graphs.Nodes.TheVariants.{Starts, Successors}
-use Rattle.search.specs.declared.graphs.Rising.{Rising}
-use Rattle.search.specs.Graphs.{graph_of, among}
-use Rattle.search.specs.Rising.{Next, Rises}
+use Rattle.graph.specs.declared.implicit.ImplicitGraph.{ImplicitGraph}
+use Rattle.graph.specs.declared.implicit.Nodes.{Nodes}
+use Rattle.graph.specs.declared.implicit.Nodes.TheVariants.{Starts, Successors}
+use Rattle.graph.specs.declared.implicit.Rising.{Rising}
+use Rattle.graph.specs.Implicit.{graph_of, among}
+use Rattle.graph.specs.Ascending.{Next, Rises}
 
 pub among_below : (g : Graph) → Bounded g → (nodes : Nodes) (w : ℕ) → among g nodes w ≡ true → w < 2 ^ 64
 among_below g b Starts w e = b.nodes w (b.starts w e)

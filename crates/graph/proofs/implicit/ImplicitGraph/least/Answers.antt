@@ -1,4 +1,4 @@
-use Rattle.search.proofs.graphs.ImplicitGraph.least.Goals as goal
+use Rattle.graph.proofs.implicit.ImplicitGraph.least.Goals as goal
 
 pub returns-in-Starts : goal.returns-in-Starts
 returns-in-Starts g c = rw c.in-Starts.is c.least_start.ensures

@@ -1,9 +1,9 @@
 -- The graph for which a map answers, with a word.
 use Rattle.std.specs.Prelude.{ℕ, Bool, List}
 use Rattle.graph.specs.Graphs.{Graph}
-use Rattle.search.specs.declared.graphs.ImplicitGraph.{ImplicitGraph}
-use Rattle.search.specs.declared.graphs.Nodes.{Nodes}
-use Rattle.search.specs.declared.graphs.Nodes.TheVariants.{Starts, Successors}
+use Rattle.graph.specs.declared.implicit.ImplicitGraph.{ImplicitGraph}
+use Rattle.graph.specs.declared.implicit.Nodes.{Nodes}
+use Rattle.graph.specs.declared.implicit.Nodes.TheVariants.{Starts, Successors}
 
 abbrev pub graph_of : {M : Type 0} → (M → List ℕ → ℕ → Graph) → ImplicitGraph M → Graph
 graph_of graph g = graph g.map.now g.word.elements.now g.word.stem
