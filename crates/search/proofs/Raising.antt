@@ -2,7 +2,7 @@
 use Rattle.std.proofs.Common.{◌≡◌, ℕ, ◌+◌, ◌-◌, ◌<◌, ◌≤◌, List, length, get_or, take, drop, ◌++◌, ap, ◌∙◌, arith}
 use Rattle.std.proofs.lemmas.List.{get_or_append_left, get_or-append_right, get_or-take, get_or-drop, length-take-le}
 use Rattle.search.specs.declared.records.Record.{Record}
-use Rattle.search.specs.Changes.{Risen}
+use Rattle.search.specs.Changes.{CopiedTo, Risen}
 use Rattle.search.specs.Tables.{blank, node_at, measure_at}
 
 -- a table with other records in place of k of them from place a on
@@ -28,18 +28,15 @@ module _ (a k : ℕ) (xs ys : List Record) (inside : a + k ≤ length xs) (same 
 
 -- `mid` is the table where the component is copied up already, and `part` has its measure too
 module _ (size top cur measure done : ℕ) (was mid part : List Record) (some : cur ≤ size) (stack : size ≤ top) (table : top ≤ length was)
-    (place : done ≡ top - (size - cur)) (len : length mid ≡ length was)
-    (copied : (k : ℕ) (d : Record) → done ≤ k → k < done + (size - cur) → get_or mid k d ≡ get_or was (cur + (k - done)) d)
-    (below : (k : ℕ) (d : Record) → k < done → get_or mid k d ≡ get_or was k d)
-    (above : (k : ℕ) (d : Record) → done + (size - cur) ≤ k → get_or mid k d ≡ get_or was k d)
+    (place : done ≡ top - (size - cur)) (copy : CopiedTo cur size done was mid)
     (count : length part ≡ top - done)
     (nodes : (k : ℕ) → node_at part k ≡ node_at (take (top - done) (drop done mid)) k)
     (measures : (k : ℕ) → k < length part → measure_at part k ≡ measure) where
   low : (k : ℕ) → k < cur → get_or (take done mid ++ (part ++ drop (top - done) (drop done mid))) k blank ≡ get_or was k blank
-  low k h = put_low done (top - done) mid part (omega arith) count k (omega arith) ∙ below k blank (omega arith)
+  low k h = put_low done (top - done) mid part (omega (arith, copy.same_length)) count k (omega arith) ∙ copy.below k (omega arith)
 
   high : (k : ℕ) → top ≤ k → get_or (take done mid ++ (part ++ drop (top - done) (drop done mid))) k blank ≡ get_or was k blank
-  high k h = put_high done (top - done) mid part (omega arith) count k (omega arith) ∙ above k blank (omega arith)
+  high k h = put_high done (top - done) mid part (omega (arith, copy.same_length)) count k (omega arith) ∙ copy.above k (omega arith)
 
   node_up : (i : ℕ) → i < size - cur → node_at part i ≡ node_at was (cur + i)
   node_up i h =
@@ -47,7 +44,7 @@ module _ (size top cur measure done : ℕ) (was mid part : List Record) (some : 
       nodes i
       ∙ ap (λ r. r.node)
       (get_or-take (top - done) (drop done mid) i blank (omega arith)
-      ∙ (get_or-drop done mid i blank ∙ (copied (done + i) blank (omega arith) (omega arith) ∙ ap (λ x. get_or was x blank) e)))
+      ∙ (get_or-drop done mid i blank ∙ (copy.copied (done + i) (omega arith) (omega arith) ∙ ap (λ x. get_or was x blank) e)))
 
   pub risen : Risen size top cur measure was (take done mid ++ (part ++ drop (top - done) (drop done mid)))
   risen =
@@ -57,7 +54,7 @@ module _ (size top cur measure done : ℕ) (was mid part : List Record) (some : 
             λ k lo hi. let to : k + (top - size) ≡ done + (k - cur) = omega arith in
             let from : cur + (k - cur) ≡ k = omega arith in
             let e = ap (λ x. get_or (take done mid ++ (part ++ drop (top - done) (drop done mid))) x blank) to
-            ∙ put_inner done (top - done) mid part (omega arith) count (k - cur) (omega arith) in (
+            ∙ put_inner done (top - done) mid part (omega (arith, copy.same_length)) count (k - cur) (omega arith) in (
               ap (λ r. r.node) e ∙ (node_up (k - cur) (omega arith) ∙ ap (node_at was) from),
               ap (λ r. r.measure) e ∙ measures (k - cur) (omega arith),
             );

@@ -32,6 +32,13 @@ Met size top cur node was work true =
 Met size top cur node was work false =
     (work ≡ was) × ((i : ℕ) → Used size top (length was) i → node_at was i ≢ node)
 
+-- the records from one place on and below another stand from a third place on, and the others are as they were
+pub record CopiedTo (from end to : ℕ) (was work : List Record) : Type 0 where
+  pub same_length : length work ≡ length was
+  pub copied : (k : ℕ) → to ≤ k → k < to + (end - from) → slice_index_or work k blank ≡ slice_index_or was (from + (k - to)) blank
+  pub below : (k : ℕ) → k < to → slice_index_or work k blank ≡ slice_index_or was k blank
+  pub above : (k : ℕ) → to + (end - from) ≤ k → slice_index_or work k blank ≡ slice_index_or was k blank
+
 -- The nodes from place cur on and below s are moved up to end at top, each with the same measure; what is below stays,
 -- and so do the nodes and measures that are done.
 pub record Risen (s top cur measure : ℕ) (was work : List Record) : Type 0 where

@@ -1,8 +1,8 @@
 // Reading and changing the table of a search. The stack is below `size`, what is done is from `top` on.
-ghost use Rattle.std.specs.Prelude.{◌≡◌, ◌+◌, ◌-◌, ◌<◌, min, length, Decides, MatchOption};
+ghost use Rattle.std.specs.Prelude.{◌≡◌, ◌+◌, ◌-◌, ◌<◌, ◌≤◌, min, length, Decides, MatchOption};
 ghost use Rattle.search.specs.Tables.{node_at, letter_at, low_at};
 ghost use Rattle.search.specs.Trees.{At};
-ghost use Rattle.search.specs.Changes.{SameTable, Changed, Met, Risen, Settled};
+ghost use Rattle.search.specs.Changes.{SameTable, Changed, CopiedTo, Met, Risen, Settled};
 
 use crate::records::Record;
 use crate::spots::{Search, Spot};
@@ -30,6 +30,14 @@ pub(crate) fn find(records: &[Record], node: u64) -> Option<usize>
     let first = 8 * blocks;
     let i = position(&records[first..], node)?;
     Some(first + i)
+}
+
+// Copies the records from one place on and below another to a third place on.
+fn copy_to(records: &mut [Record], from: usize, end: usize, to: usize)
+    requires { (from ≤ end) × (end ≤ length records.old) × (to + (end - from) ≤ length records.old) }
+    ensures { CopiedTo from end to records.old records.new }
+{
+    records.copy_within(from..end, to);
 }
 
 impl<'w> Search<'w> {
@@ -91,7 +99,7 @@ impl<'w> Search<'w> {
     {
         let Spot { size, top, cur, .. } = self.spot;
         let done = top - (size - cur);
-        self.work.copy_within(cur..size, done);
+        copy_to(self.work, cur, size, done);
         for record in &mut self.work[done..top] {
             record.letter = 0;
             record.measure = measure;

@@ -8,11 +8,10 @@ returns-clause-risen c =
     let s = c.args.self.now in
     let p = s.spot in
     let done = p.top - (p.size - p.cur) in
-    let mid = c.copy_within.new.self in
-    let (copied, below, above) = c.copy_within.ensures.by_index in
-    let inside : p.top - done ≤ length (drop done mid) = omega (arith, length-drop done mid, c.copy_within.ensures.len, s.table) in
+    let mid = c.copy_to.new.records in
+    let inside : p.top - done ≤ length (drop done mid) = omega (arith, length-drop done mid, c.copy_to.ensures.same_length, s.table) in
     let len : length (take (p.top - done) (drop done mid)) ≡ p.top - done = length-take-le (p.top - done) (drop done mid) inside in
     let same : length c.loop-record.record-items ≡ length (take (p.top - done) (drop done mid)) = c.loop-record.auto.record-items in
     risen p.size p.top p.cur c.args.measure done s.work.now mid c.loop-record.record-items
-    s.within s.stack s.table refl c.copy_within.ensures.len copied below above (same ∙ len) c.loop-record.invariant.0
+    s.within s.stack s.table refl c.copy_to.ensures (same ∙ len) c.loop-record.invariant.0
     (λ k h. c.loop-record.invariant.1 k (omega (arith, same, c.loop-record-test.false)))
