@@ -22,7 +22,13 @@ Next P from (Some v) after =
     (P v ≡ true) × ((w : ℕ) → P w ≡ true → Passed after w → Passed from w ⊎ (w ≡ v))
     × ((w : ℕ) → Passed from w → Passed after w) × Passed after v
 
+-- it comes behind all that are passed
+abbrev pub Behind : Option ℕ → Option ℕ → Type 0
+Behind from None = Unit {0}
+Behind from (Some v) = Passed from v → ⊥
+
 pub record Rises {M : Type 0} (graph : M → List ℕ → ℕ → Graph) (s : Rising M) (r : Option ℕ) (t : Rising M) : Type 0 where
   pub same_graph : t.graph ≡ s.graph
   pub same_nodes : t.nodes ≡ s.nodes
   pub gives : Next (among (graph_of graph s.graph) s.nodes) s.from r t.from
+  pub behind : Behind s.from r

@@ -1,4 +1,4 @@
-use Rattle.std.proofs.Common.{refl}
+use Rattle.std.proofs.Common.{refl, arith}
 use Rattle.graph.specs.Implicit.{graph_of, among}
 use Rattle.graph.proofs.Ascending.{among_below, next_found}
 use Rattle.graph.proofs.implicit.RisingIterator.next.Goals as goal
@@ -15,4 +15,5 @@ returns-clause-steps g c =
           rw c.in_ok-self.was
           (next_found (among m s.nodes) c.in_ok-self.field-0 c.in_ok-next.next (among_below m bounds s.nodes)
           c.in_ok-next.ensures c.checked_add-self.result c.checked_add-self.ensures);
+      behind = rw c.in_ok-self.was (λ passed. omega (arith, passed, c.in_ok-next.ensures.0));
     }
