@@ -1,4 +1,4 @@
-// Examples of searches, with answers worked out by hand. They stand in a crate of their own since tests are proved too,
+// Examples of searches and of what they ask of maps, with answers worked out by hand. They stand in a crate of their own since tests are proved too,
 // and so are the maps that they search.
 #![tactic(auto)]
 
@@ -11,6 +11,8 @@ mod lassos;
 mod limits;
 #[cfg(test)]
 mod measures;
+#[cfg(test)]
+mod rising;
 #[cfg(test)]
 mod samples;
 mod sheets;
