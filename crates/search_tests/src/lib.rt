@@ -1,5 +1,5 @@
-// Examples of searches and of what they ask of maps, with answers worked out by hand. They stand in a crate of their own since tests are proved too,
-// and so are the maps that they search.
+// Examples of searches and of what they ask of maps, with answers worked out by hand. They stand in a crate of their own since
+// tests are proved too, and so are the maps that they search.
 #![tactic(auto)]
 
 #[cfg(test)]
