@@ -55,7 +55,7 @@ fn time(rt: &HostRuntime, name: &str, map: Band) -> anyhow::Result<()> {
 }
 
 // Four searches of so many nodes with up to 80 successors each: two with no cycle, of which the second has to look for each
-// successor at the far end of the table; and two with one component, unmarked and marked.
+// successor at the far end of the table; and two with one component, unmarked and marked. Then one where each node leads to each.
 fn time_all(rt: &HostRuntime, nodes: u32) -> anyhow::Result<()> {
     let row = Band {
         nodes,
@@ -77,7 +77,12 @@ fn time_all(rt: &HostRuntime, nodes: u32) -> anyhow::Result<()> {
         ..ring
     };
     time(rt, "ring", unmarked)?;
-    time(rt, "marked-ring", ring)
+    time(rt, "marked-ring", ring)?;
+    let full = Band {
+        reach: nodes,
+        ..unmarked
+    };
+    time(rt, "full", full)
 }
 
 fn figures(rt: &HostRuntime) -> anyhow::Result<()> {
