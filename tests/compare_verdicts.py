@@ -1,7 +1,7 @@
 #!/usr/bin/env python3
 """Compares the program's verdicts on random pairs of charts with verdicts that are found without ranks.
 
-Build the program first (rt run in crates/carver), then: python3 tests/compare_verdicts.py [pairs] [seed]
+Build the program first (rt run in crates/containment), then: python3 tests/compare_verdicts.py [pairs] [seed]
 
 The *effect* of a finite word on a chart tells between which states runs over the word lead, and between which past a marked
 state. A chart has finitely many effects, and that of a word follows from those of its letters; so all that words have on the
@@ -24,7 +24,7 @@ from pathlib import Path
 import ranked_graph
 from ranked_graph import Chart
 
-PROGRAM = Path(__file__).resolve().parent.parent / "crates/carver/out/carver"
+PROGRAM = Path(__file__).resolve().parent.parent / "crates/containment/out/containment"
 MOST_NODES = 512
 MOST_RULE_STATES = 6
 

@@ -1,12 +1,14 @@
 #!/usr/bin/env python3
 """Builds ranked graphs apart from the repository's definitions, and compares.
 
-First with the examples of crates/rank/specs/Examples.antt: of each node its number, a measure, where its edges lead and
-whether it is marked, and the starts for rules of one to six states. Then on random pairs of charts: what the graph tells
-against what runs over short words tell; pairs whose graphs have more than 3,000 nodes are left out. Not part of the gate.
+First with the answers that the tests in crates/ranked_tests expect: of each node its number, where its edges lead by each
+letter, whether it is marked and on a cycle, and a measure, and the starts for rules of one to six states. Then on random pairs
+of charts: what the graph tells against what runs over short words tell; pairs whose graphs have more than 3,000 nodes are left
+out. Not part of the gate.
 
     python3 tests/ranked_graph.py [pairs] [seed]
 """
+import ast
 import itertools
 import random
 import re
@@ -14,7 +16,7 @@ import sys
 from collections import namedtuple
 from pathlib import Path
 
-EXAMPLES = Path(__file__).resolve().parent.parent / "crates/rank/specs/Examples.antt"
+TESTS = Path(__file__).resolve().parent.parent / "crates/ranked_tests/src"
 
 Chart = namedtuple("Chart", "states letters starts marks steps")
 Node = namedtuple("Node", "duty ranks owed turn")
@@ -135,30 +137,38 @@ def takes(chart, stem, loop):
     return any((q, q, True) in laps for q in from_start)
 
 
+def rows(duty, edges):
+    """Of each node its number, and those of its successors by each letter."""
+    letters = range(duty.letters)
+    return {number(n): [sorted({number(m) for by, m in edges[n] if by == l}) for l in letters] for n in edges}
+
+
 def told(duty, rule):
-    """Whether there is a marked cycle, the marked nodes, and of each node its number, its measure, and its successors."""
+    """A ranked graph as wholes.rt writes it."""
     edges = graph(duty, rule)
-    cycle = marked_cycle(edges, starts(duty, rule)) is not None
-    measure = {node: 0 for node in edges} if cycle else measures(edges)
-    marked = {number(n) for n in edges if is_marked(n)}
-    entries = {(number(n), measure[n], tuple(sorted({number(m) for _, m in edges[n]}))) for n in edges}
-    return cycle, marked, entries
+    order = sorted(edges, key=number)
+    witnesses = [n for n in order if is_marked(n) and path(edges, [n], n) is not None]
+    measure = {} if witnesses else measures(edges)
+    return {
+        "starts": [number(n) for n in starts(duty, rule)],
+        "rows": rows(duty, edges),
+        "marked": [number(n) for n in order if is_marked(n)],
+        "witnesses": [number(n) for n in witnesses],
+        "measures": [measure[n] for n in order if n in measure],
+    }
 
 
-def numbers(text):
-    return [int(x) for x in re.findall(r"\d+", text)]
+def constants(name):
+    """The constants of a file of tests."""
+    text = (TESTS / name).read_text()
+    found = {}
+    for constant, value in re.findall(r"^const (\w+): [^=]* = (?:Whole )?(.*?);$", text, re.M | re.S):
+        found[constant] = ast.literal_eval(re.sub(r"(\w+):", r'"\1":', value.replace("&", "")))
+    return found
 
 
-def written():
-    """The same of each example as it is written, and the starts."""
-    text = EXAMPLES.read_text()
-    examples = []
-    for part in text[text.index("examples =") : text.index("module _")].split("duty =")[1:]:
-        cycle = re.search(r"cycle = (true|false)", part)[1] == "true"
-        marked = set(numbers(re.search(r"marked = (.*);", part)[1]))
-        entries = re.findall(r"entry (\d+) (\d+)\s*(?:\(([^)]*)\)|\[\])", part)
-        examples.append((cycle, marked, {(int(n), int(m), tuple(numbers(after))) for n, m, after in entries}))
-    return examples, numbers(re.search(r"first_nodes = (.*)", text)[1])
+def whole(constant):
+    return constant | {"rows": dict(constant["rows"])}
 
 
 def random_chart(random_source, states, letters):
@@ -205,20 +215,23 @@ def main():
     few_b = Chart(2, 2, {0}, {1}, {(0, a, 0), (0, b, 0), (0, a, 1), (1, a, 1)})
     no_start = Chart(1, 1, set(), set(), {(0, a, 0)})
     still = [Chart(n, 1, {0}, set(), set()) for n in range(1, 7)]
-    pairs = [
-        (marked_loop, unmarked_loop),
-        (marked_loop, marked_loop),
-        (unmarked_loop, unmarked_loop),
-        (marked_loop, every_second),
-        (one_b, few_b),
-        (marked_loop, still[0]),
-        (marked_loop, no_start),
-        (still[0], unmarked_loop),
-        (no_start, unmarked_loop),
-    ]
-    firsts = [number(node) for rule in still for node in starts(marked_loop, rule)]
-    assert ([told(*pair) for pair in pairs], firsts) == written()
-    print(f"the {len(pairs)} examples agree, and the starts for {len(firsts)} rules")
+    pairs = {
+        "MARKED_TWICE": (marked_loop, marked_loop),
+        "UNMARKED_TWICE": (unmarked_loop, unmarked_loop),
+        "EVERY_SECOND": (marked_loop, every_second),
+        "ONE_B": (one_b, few_b),
+        "STILL_RULE": (marked_loop, still[0]),
+        "NO_START_RULE": (marked_loop, no_start),
+        "STILL_DUTY": (still[0], unmarked_loop),
+        "NO_START_DUTY": (no_start, unmarked_loop),
+    }
+    expected = constants("wholes.rt")
+    for name, pair in pairs.items():
+        assert told(*pair) == whole(expected[name]), name
+    assert [number(node) for rule in still for node in starts(marked_loop, rule)] == expected["STARTS"]
+    nodes = dict(constants("loops.rt")["NODES"])
+    assert rows(marked_loop, graph(marked_loop, unmarked_loop)) == nodes
+    print(f"the {len(pairs) + 1} graphs that are tested agree, and the starts for {len(still)} rules")
     arguments = [int(x) for x in sys.argv[1:]] + [200, 1][len(sys.argv) - 1 :]
     compare(*arguments)
 

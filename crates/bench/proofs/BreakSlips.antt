@@ -4,15 +4,15 @@ use Rattle.bench.specs.Drafting.{Wrote}
 use Rattle.graph.specs.Graphs.{Graph, Bounded}
 use Rattle.graph.specs.Witnesses.{MarkedLasso}
 use Rattle.rules.specs.declared.Kind.TheVariants.{Break}
-use Rattle.search.specs.Courses.{Written}
+use Rattle.search.specs.Lassos.{Written}
 use Rattle.search.specs.Tables.{node_at, letter_at}
-use Rattle.search.specs.declared.courses.Extent.{Extent}
+use Rattle.search.specs.declared.lassos.Extent.{Extent}
 use Rattle.search.specs.declared.records.Record.{Record}
 use Rattle.slip.proofs.Meeting.{lasso_meets}
 
-pub break_wrote : (g : Graph) (room : ℕ) → Bounded g → (was table : List Record) (c : Extent) → Written g room was table c → (nodes : ℕ)
+pub break_wrote : (g : Graph) (node room : ℕ) → Bounded g → (was table : List Record) (c : Extent) → Written g node room was table c → (nodes : ℕ)
     → Wrote g room (record { kind = Break; nodes = nodes }) was table (record { kind = Break; count = c.count; stem = c.stem })
-break_wrote g room bounds was table c w nodes =
+break_wrote g node room bounds was table c w nodes =
     let rs = w.records in
     let count : length rs ≡ c.count = w.count in
     let lasso = subst (λ n. MarkedLasso g (node_at rs) (letter_at rs) n c.stem) (sym count) w.lasso in

@@ -1,60 +1,30 @@
--- Every call carries histories on, and what stands passed is true.
-use Rattle.std.proofs.Common.{◌≡◌, ◌∙◌, ℕ, ◌≤◌, List, Ok, Err, Result, ap, refl, subst, sym, arith}
+-- Every call carries on what the calls before it told, and what stands passed is true.
+use Rattle.std.proofs.Common.{◌≡◌, ◌∙◌, ℕ, ◌≤◌, List, [], ◌∷◌, Ok, Err, Result, ap, refl, subst, sym}
 use Rattle.std.specs.Borrow.{Bor}
 use Rattle.std.specs.Prelude.{IfOk, MatchResult}
 use Rattle.bench.specs.Benches.{SameBench, duty_on, rule_on}
 use Rattle.bench.specs.Calls.{InspectTells, JudgeTells, PutTells, ReleaseTells, Sized, WillPass}
-use Rattle.bench.specs.Histories.{HandsOut, History, Law, LedTo, NoPassed, Sound}
+use Rattle.bench.specs.Histories.{Agrees, Law, LedTo, StateTold}
 use Rattle.bench.specs.Making.{NewBench, NewRefused}
-use Rattle.bench.specs.Slips.{slip_at}
+use Rattle.bench.specs.Slips.{handed, slip_at}
+use Rattle.bench.specs.Tellings.{Call, Status, Follows, HandsOut, NoPassed, Sound, Tells}
 use Rattle.bench.specs.declared.benches.Bench.{Bench}
+use Rattle.bench.specs.declared.states.Form.{Form}
 use Rattle.bench.specs.declared.states.State.{State}
-use Rattle.bench.specs.declared.states.State.TheVariants.{Empty, Drafted, Passed}
+use Rattle.bench.specs.declared.states.State.TheVariants.{Empty}
 use Rattle.bench.specs.declared.verdicts.Verdict.{Verdict}
 use Rattle.bench.proofs.Passing.{judge_passes}
-use Rattle.bench.proofs.Standing.{Standing, standing}
+use Rattle.bench.proofs.Standing.{slip_first}
+use Rattle.bench.proofs.Steps.{Kept, Step, found_passed, inspect_kept, inspect_step, judge_kept, judge_step, put_kept, put_step, release_kept, release_step, told_empty, found_drafted}
+use Rattle.bench.proofs.Telling.{told_sound}
 use Rattle.chart.specs.Automata.{Automaton}
 use Rattle.chart.specs.Fits.{fitted_of_limits}
 use Rattle.chart.specs.Meanings.{fitted_of}
 use Rattle.fault.specs.declared.BenchFault.{BenchFault}
 use Rattle.fault.specs.declared.BenchFault.TheVariants as faults
-use Rattle.fault.specs.declared.SearchFault.TheVariants.{Full}
 use Rattle.rank.specs.Containment.{Charts}
 use Rattle.search.specs.declared.records.Record.{Record}
 use Rattle.slip.specs.Certificates.{Certificate}
-use Rattle.slip.proofs.Telling.{meets_shows}
-
-sound_of : (a b : Automaton) → Charts a b → (room : ℕ) → room ≤ 65536 → (s : State) (table : List Record) → Standing a b room s table → Sound a b s table
-sound_of a b charts room allowed Empty table h = tt {0}
-sound_of a b charts room allowed (Drafted f) table h = tt {0}
-sound_of a b charts room allowed (Passed f) table h =
-    let few = h.fits.few in
-    meets_shows a b charts (slip_at f table) (record { placed = h.fits.placed; few = omega (arith, few, allowed) }) h.meets
-
--- A call changes nothing where the table has another length.
-module _ (a b : Automaton) (room : ℕ) (s : State) (table : List Record) where
-  judge_kept : (work : List Record) (s' : State) (table' work' : List Record) (r : Result Verdict BenchFault) → JudgeTells a b room s table work s' table' work' r
-      → (Sized room table → ⊥) → s' ≡ s
-  judge_kept work s' table' work' (Ok v) j unsized = absurd (unsized j.sized)
-  judge_kept work s' table' work' (Err faults.Room) j unsized = j.1.same_state
-  judge_kept work s' table' work' (Err faults.Occupied) j unsized = absurd (unsized j.0)
-  judge_kept work s' table' work' (Err (faults.Search Full)) j unsized = absurd (unsized j.0)
-  judge_kept work s' table' work' (Err e) j unsized = absurd j
-
-  put_kept : (c : Certificate) (s' : State) (table' : List Record) (r : Result (Unit {0}) BenchFault) → PutTells a b room s table c s' table' r
-      → (Sized room table → ⊥) → s' ≡ s
-  put_kept c s' table' (Ok v) p unsized = absurd (unsized p.sized)
-  put_kept c s' table' (Err faults.Room) p unsized = p.1.same_state
-  put_kept c s' table' (Err faults.Occupied) p unsized = absurd (unsized p.0)
-  put_kept c s' table' (Err faults.Shape) p unsized = absurd (unsized p.0)
-  put_kept c s' table' (Err e) p unsized = absurd p
-
-  inspect_kept : (s' : State) (r : Result (Unit {0}) BenchFault) → InspectTells a b room s table s' r → (Sized room table → ⊥) → s' ≡ s
-  inspect_kept s' (Ok v) i unsized = absurd (unsized i.sized)
-  inspect_kept s' (Err faults.Room) i unsized = i.1
-  inspect_kept s' (Err faults.Vacant) i unsized = absurd (unsized i.0)
-  inspect_kept s' (Err (faults.Broken breach)) i unsized = absurd (unsized i.0)
-  inspect_kept s' (Err e) i unsized = absurd i
 
 module _ {D R : Type 0} (meaning_d : D → Automaton) (meaning_r : R → Automaton) where
   pub charts_on : (s : Bench D R) → Charts (duty_on meaning_d s) (rule_on meaning_r s)
@@ -65,121 +35,141 @@ module _ {D R : Type 0} (meaning_d : D → Automaton) (meaning_r : R → Automat
         few_states = s.few_states;
       }
 
-  led_charts : (a b : Automaton) (room : ℕ) (s : Bench D R) (table : List Record) → LedTo meaning_d meaning_r a b room s table → Charts a b
-  led_charts a b room s table led =
-      subst (λ x. Charts x b) led.duty (subst (λ y. Charts (duty_on meaning_d s) y) led.rule (charts_on s))
+  module _ (a b : Automaton) (room : ℕ) (calls : List Call) (told : Status) (s : Bench D R) (mine : List Record)
+      (led : LedTo meaning_d meaning_r a b room calls told s mine) where
+    -- what holds of the charts on the bench holds of those that the calls were made for
+    pub moved : (P : Automaton → Automaton → ℕ → Type 0) → P (duty_on meaning_d s) (rule_on meaning_r s) s.room → P a b room
+    moved P x =
+        subst (λ d. P d b room) led.duty
+        (subst (λ r. P (duty_on meaning_d s) r room) led.rule (subst (P (duty_on meaning_d s) (rule_on meaning_r s)) led.same_room x))
 
-  led_sound : (a b : Automaton) (room : ℕ) (s : Bench D R) (table : List Record) → LedTo meaning_d meaning_r a b room s table → Sound a b s.state table
-  led_sound a b room s table led =
-      sound_of a b (led_charts a b room s table led) room (subst (λ n. n ≤ 65536) led.same_room s.allowed.few_records) s.state table
-      (standing a b room led.history)
+    sound_for : (calls' : List Call) (now : Status) → Tells a b room calls' now → Sound a b now
+    sound_for calls' now =
+        told_sound a b room (moved (λ d r n. Charts d r) (charts_on s)) (moved (λ d r n. n ≤ 65536) s.allowed.few_records) calls' now
 
-  module _ (s : Bench D R) (table : List Record) (s' : Bench D R) (table' : List Record) (same : SameBench s s') where
-    -- a longer history leads to a bench with the same charts and room
-    led_on : (a b : Automaton) (room : ℕ) (mine : List Record) → LedTo meaning_d meaning_r a b room s mine → (mine' : List Record)
-        → History a b room s'.state mine' → LedTo meaning_d meaning_r a b room s' mine'
-    led_on a b room mine led mine' h =
+    -- with one call more, the calls lead to a bench with the same charts and room
+    led_on : (s' : Bench D R) → SameBench s s' → (call : Call) (now : Status) → Follows a b room call told now → (mine' : List Record)
+        → Sized room mine' → Agrees now s'.state mine' → LedTo meaning_d meaning_r a b room (call ∷ calls) now s' mine'
+    led_on s' same call now follows mine' sized agrees =
         record {
           duty = ap (fitted_of meaning_d) same.duty ∙ led.duty;
           rule = ap (fitted_of meaning_r) same.rule ∙ led.rule;
           same_room = same.room ∙ led.same_room;
-          history = h;
+          tells = (told, led.tells, follows);
+          sized = sized;
+          agrees = agrees;
         }
 
-    -- what was told of the charts on the bench is told of those that the history is of
-    told : (Tells : Automaton → Automaton → ℕ → Type 0) → Tells (duty_on meaning_d s) (rule_on meaning_r s) s.room → (a b : Automaton) (room : ℕ)
-        (mine : List Record) → LedTo meaning_d meaning_r a b room s mine → Tells a b room
-    told Tells t a b room mine led =
-        subst (λ x. Tells x b room) led.duty
-        (subst (λ y. Tells (duty_on meaning_d s) y room) led.rule (subst (Tells (duty_on meaning_d s) (rule_on meaning_r s)) led.same_room t))
-
-    law : (Tells : Automaton → Automaton → ℕ → Type 0) → Tells (duty_on meaning_d s) (rule_on meaning_r s) s.room
-        → ((a b : Automaton) (room : ℕ) → Tells a b room → History a b room s.state table → History a b room s'.state table')
-        → ((a b : Automaton) (room : ℕ) → Tells a b room → (Sized room table → ⊥) → s'.state ≡ s.state)
-        → Law meaning_d meaning_r s table s' table' Tells
-    law Tells t step kept =
+  module _ (call : Call) (s : Bench D R) (table : List Record) (s' : Bench D R) (table' : List Record) (same : SameBench s s') where
+    -- what the call answers is told for each duty, rule and room, so that it can be moved
+    law : (Answers : Automaton → Automaton → ℕ → Type 0) → Answers (duty_on meaning_d s) (rule_on meaning_r s) s.room
+        → ((a b : Automaton) (room : ℕ) (told : Status) → Sized room table → Agrees told s.state table → Answers a b room
+        → Step a b room call told table s'.state table')
+        → ((a b : Automaton) (room : ℕ) → (Sized room table → ⊥) → Answers a b room → Kept a b room call s.state s'.state)
+        → Law meaning_d meaning_r call s table s' table'
+    law Answers answers step kept =
         record {
           own =
-              λ a b room led.
-              let tells = told Tells t a b room table led in
-              let after = led_on a b room table led table' (step a b room tells led.history) in
-              (tells, after, led_sound a b room s' table' after);
+              λ a b room calls told led.
+              let x = step a b room told led.sized led.agrees (moved a b room calls told s table led Answers answers) in
+              let after = led_on a b room calls told s table led s' same call x.now x.follows table' x.sized x.agrees in
+              record {
+                now = x.now;
+                follows = x.follows;
+                writes = x.writes;
+                lent = x.lent;
+                led = after;
+                sound = sound_for a b room calls told s table led (call ∷ calls) x.now after.tells;
+              };
           other =
-              λ a b room mine unsized led.
-              let same_state = kept a b room (told Tells t a b room mine led) unsized in
-              let after = led_on a b room mine led mine (subst (λ x. History a b room x mine) (sym same_state) led.history) in
-              (after, led_sound a b room s' mine after);
+              λ a b room calls told mine unsized led.
+              let x = kept a b room unsized (moved a b room calls told s mine led Answers answers) in (
+                x.misfit,
+                led_on a b room calls told s mine led s' same call told (x.follows told) mine led.sized
+                    (subst (λ y. Agrees told y mine) (sym x.same) led.agrees),
+                sound_for a b room calls told s mine led calls told led.tells,
+              );
         }
-
-  pub law_clear : (s s' : Bench D R) → SameBench s s' → s'.state ≡ Empty → (a b : Automaton) (room : ℕ) (table : List Record)
-      → LedTo meaning_d meaning_r a b room s table → LedTo meaning_d meaning_r a b room s' table
-  law_clear s s' same empty a b room table led =
-      led_on s table s' table same a b room table led table
-      (subst (λ x. History a b room x table) (sym empty) (History.clear s.state table led.history))
-
-  -- what is handed out is true, and nothing is where no passed slip stands
-  pub hands_out : (s : Bench D R) (table : List Record) (r : Result (Bor (List Record)) BenchFault)
-      → ReleaseTells (duty_on meaning_d s) (rule_on meaning_r s) s.room s.state table r → (a b : Automaton) (room : ℕ)
-      → LedTo meaning_d meaning_r a b room s table
-      → MatchResult r (λ out. HandsOut a b s.state table out.now) (λ e. NoPassed s.state)
-  hands_out s table (Ok out) tells a b room led =
-      record {
-        form = tells.form;
-        passed = tells.passed;
-        hands = tells.hands;
-        shows = subst (λ x. Sound a b x table) tells.passed (led_sound a b room s table led);
-      }
-  hands_out s table (Err faults.Room) tells a b room led =
-      let sized = (standing a b room led.history).sized in
-      absurd (tells (subst (λ n. Sized n table) (sym led.same_room) sized))
-  hands_out s table (Err faults.Vacant) tells a b room led = λ f e. let c = sym tells.1 ∙ e in absurd (cc)
-  hands_out s table (Err faults.Unpassed) tells a b room led = λ f e. let c = sym tells.1.1 ∙ e in absurd (cc)
-  hands_out s table (Err e) tells a b room led = absurd tells
 
   pub judge_law : (s : Bench D R) (table work : List Record) (s' : Bench D R) (table' work' : List Record) (r : Result Verdict BenchFault)
       → JudgeTells (duty_on meaning_d s) (rule_on meaning_r s) s.room s.state table work s'.state table' work' r → SameBench s s'
-      → Law meaning_d meaning_r s table s' table' (λ a b room. JudgeTells a b room s.state table work s'.state table' work' r)
+      → Law meaning_d meaning_r (Call.judge table' r) s table s' table'
   judge_law s table work s' table' work' r tells same =
-      law s table s' table' same (λ a b room. JudgeTells a b room s.state table work s'.state table' work' r) tells
-      (λ a b room. History.judge s.state table work s'.state table' work' r)
-      (λ a b room. judge_kept a b room s.state table work s'.state table' work' r)
+      law (Call.judge table' r) s table s' table' same (λ a b room. JudgeTells a b room s.state table work s'.state table' work' r) tells
+      (λ a b room told sized agrees. judge_step a b room s.state table told sized agrees work s'.state table' work' r)
+      (λ a b room unsized. judge_kept a b room s.state table unsized work s'.state table' work' r)
 
   pub put_law : (s : Bench D R) (table : List Record) (c : Certificate) (s' : Bench D R) (table' : List Record) (r : Result (Unit {0}) BenchFault)
       → PutTells (duty_on meaning_d s) (rule_on meaning_r s) s.room s.state table c s'.state table' r → SameBench s s'
-      → Law meaning_d meaning_r s table s' table' (λ a b room. PutTells a b room s.state table c s'.state table' r)
+      → Law meaning_d meaning_r (Call.put c r) s table s' table'
   put_law s table c s' table' r tells same =
-      law s table s' table' same (λ a b room. PutTells a b room s.state table c s'.state table' r) tells
-      (λ a b room. History.put s.state table c s'.state table' r)
-      (λ a b room. put_kept a b room s.state table c s'.state table' r)
+      law (Call.put c r) s table s' table' same (λ a b room. PutTells a b room s.state table c s'.state table' r) tells
+      (λ a b room told sized agrees. put_step a b room s.state table told sized agrees c s'.state table' r)
+      (λ a b room unsized. put_kept a b room s.state table unsized c s'.state table' r)
 
   pub inspect_law : (s : Bench D R) (table : List Record) (s' : Bench D R) (r : Result (Unit {0}) BenchFault)
       → InspectTells (duty_on meaning_d s) (rule_on meaning_r s) s.room s.state table s'.state r → SameBench s s'
-      → Law meaning_d meaning_r s table s' table (λ a b room. InspectTells a b room s.state table s'.state r)
+      → Law meaning_d meaning_r (Call.inspect r) s table s' table
   inspect_law s table s' r tells same =
-      law s table s' table same (λ a b room. InspectTells a b room s.state table s'.state r) tells
-      (λ a b room. History.inspect s.state table s'.state r)
-      (λ a b room. inspect_kept a b room s.state table s'.state r)
+      law (Call.inspect r) s table s' table same (λ a b room. InspectTells a b room s.state table s'.state r) tells
+      (λ a b room told sized agrees. inspect_step a b room s.state table told sized agrees s'.state r)
+      (λ a b room unsized. inspect_kept a b room s.state table unsized s'.state r)
 
   pub release_law : (s : Bench D R) (table : List Record) (r : Result (Bor (List Record)) BenchFault)
       → ReleaseTells (duty_on meaning_d s) (rule_on meaning_r s) s.room s.state table r
-      → Law meaning_d meaning_r s table s table (λ a b room. ReleaseTells a b room s.state table r)
+      → Law meaning_d meaning_r (Call.release r) s table s table
   release_law s table r tells =
-      law s table s table (record { duty = refl; rule = refl; room = refl }) (λ a b room. ReleaseTells a b room s.state table r) tells
-      (λ a b room. History.release s.state table r) (λ a b room told unsized. refl)
+      law (Call.release r) s table s table (record { duty = refl; rule = refl; room = refl })
+      (λ a b room. ReleaseTells a b room s.state table r) tells
+      (λ a b room told sized agrees. release_step a b room s.state table told sized agrees r)
+      (λ a b room unsized. release_kept a b room s.state table unsized r)
+
+  pub law_clear : (s s' : Bench D R) → SameBench s s' → s'.state ≡ Empty → (a b : Automaton) (room : ℕ) (calls : List Call) (told : Status)
+      (table mine : List Record) → LedTo meaning_d meaning_r a b room calls told s table → Sized room mine
+      → LedTo meaning_d meaning_r a b room (Call.clear ∷ calls) Status.empty s' mine
+  law_clear s s' same empty a b room calls told table mine led sized =
+      led_on a b room calls told s table led s' same Call.clear Status.empty refl mine sized empty
 
   pub new_law : (duty : D) (rule : R) (room : ℕ) (r : Result (Bench D R) BenchFault)
       → MatchResult r (NewBench meaning_d meaning_r duty rule room) (NewRefused (meaning_d duty) (meaning_r rule) room)
-      → IfOk r (λ s. (table : List Record) → Sized room table → LedTo meaning_d meaning_r (meaning_d duty) (meaning_r rule) room s table)
+      → IfOk r
+      (λ s. (table : List Record) → Sized room table → LedTo meaning_d meaning_r (meaning_d duty) (meaning_r rule) room [] Status.empty s table)
   new_law duty rule room (Ok s) n =
       λ table sized.
       record {
         duty = n.duty_means;
         rule = n.rule_means;
         same_room = n.same_room;
-        history =
-            subst (λ x. History (meaning_d duty) (meaning_r rule) room x table) (sym n.empty) (History.make table sized);
+        tells = refl;
+        sized = sized;
+        agrees = n.empty;
       }
   new_law duty rule room (Err e) n = tt
+
+  -- what is handed out is true, and nothing is where no slip is told to be passed
+  pub hands_out : (s : Bench D R) (table : List Record) (r : Result (Bor (List Record)) BenchFault)
+      → ReleaseTells (duty_on meaning_d s) (rule_on meaning_r s) s.room s.state table r → (a b : Automaton) (room : ℕ) (calls : List Call)
+      (told : Status) → LedTo meaning_d meaning_r a b room calls told s table
+      → MatchResult r (λ out. HandsOut a b told out.now) (λ e. NoPassed told)
+  hands_out s table (Ok out) tells a b room calls told led =
+      let x = found_passed told s.state table tells.form led.agrees tells.passed in
+      let is = ap (λ (f : Form). slip_at f table) x.form ∙ slip_first x.slip table x.first in
+      record {
+        slip = x.slip;
+        passed = x.is;
+        hands = tells.hands ∙ ap handed is;
+        shows = subst (Sound a b) x.is (sound_for a b room calls told s table led calls told led.tells);
+      }
+  hands_out s table (Err faults.Room) tells a b room calls told led =
+      absurd (tells (subst (λ n. Sized n table) (sym led.same_room) led.sized))
+  hands_out s table (Err faults.Vacant) tells a b room calls told led =
+      λ c e. let x = sym (told_empty told s.state table led.agrees tells.1) ∙ e in absurd (cc)
+  hands_out s table (Err faults.Unpassed) tells a b room calls told led =
+      λ c e. let x = sym (found_drafted told s.state table tells.1.0 led.agrees tells.1.1).is ∙ e in absurd (cc)
+  hands_out s table (Err e) tells a b room calls told led = absurd tells
+
+  pub state_told : (s : Bench D R) (r : State) → r ≡ s.state → StateTold meaning_d meaning_r s r
+  state_told s r is = λ a b room calls told table led. subst (λ x. Agrees told x table) (sym is) led.agrees
 
   pub judge_next : (s : Bench D R) (table work : List Record) (s' : Bench D R) (table' work' : List Record) (r : Result Verdict BenchFault)
       → JudgeTells (duty_on meaning_d s) (rule_on meaning_r s) s.room s.state table work s'.state table' work' r → SameBench s s'

@@ -3,6 +3,10 @@ pub mod KeepSlips
 pub mod BreakSlips
 pub mod Deciding
 pub mod Standing
+pub mod Telling
+pub mod Steps
 pub mod Passing
 pub mod Lasting
+pub mod Likeness
+pub mod WorkedGraphs
 pub mod WorkedExamples

@@ -14,12 +14,9 @@ use Rattle.graph.specs.Walks.{Count, MarkedCycle, begin}
 use Rattle.graph.specs.Witnesses.{FallingMeasures}
 use Rattle.lasso.specs.Positions.{after}
 use Rattle.rank.specs.Containment.{Differs, Included}
-use Rattle.rank.specs.Examples.{Entry, entry, entry_at, graph_of, means, no_start}
-use Rattle.rank.specs.Examples as ranked
 use Rattle.rank.specs.Ranked.{ranked_graph}
 use Rattle.rank.proofs.Implied.{implied, implied_from}
 use Rattle.rank.proofs.Tests.{edge_holds}
-use Rattle.rank.proofs.WorkedExamples as graphs
 use Rattle.rules.specs.Numbered.{rule_kind, rule_number}
 use Rattle.rules.specs.declared.Breach.{Breach}
 use Rattle.rules.specs.declared.BreakRule.{BreakRule}
@@ -36,11 +33,13 @@ use Rattle.slip.specs.Certificates.{Certificate}
 use Rattle.slip.specs.Rules as rules
 use Rattle.slip.specs.Rules.{BreakHolds, FirstBreach, HoldsFor, KeepHolds, Meets}
 use Rattle.slip.specs.Shapes.{stems}
-use Rattle.bench.specs.Examples.{Example, Holds, Told, verdict, full, passes, refused, example, examples, ExamplesHold}
+use Rattle.bench.specs.Examples.{Example, Holds, Told, verdict, full, passes, refused, example, examples, ExamplesHold, means, no_start}
 use Rattle.bench.specs.Examples as here
 use Rattle.bench.specs.Slips.{Fits}
 use Rattle.bench.specs.Verdicts.{IsVerdict}
 use Rattle.bench.proofs.Deciding.{cycle_forbidden, told_decides}
+use Rattle.bench.proofs.WorkedGraphs.{Entry, Worked, entry, entry_at, graph_of, graphs_hold, worked}
+use Rattle.bench.proofs.WorkedGraphs as graphs
 
 -- what tests decide
 itself : (b : Bool) → Decides b (b ≡ true)
@@ -71,7 +70,7 @@ module _ {X : Type 0} (xs : List X) (d : X) (p : X → Bool) (P : X → Type 0) 
       (Decides-by_or p P (list_any p) one refl (λ x ys. refl) xs)
 
 -- tests of the rules, over the graph of an example
-module _ (e : ranked.Example) (rs : List Record) where
+module _ (e : Worked) (rs : List Record) where
   abbrev g : Graph
   g = graph_of e
 
@@ -175,7 +174,7 @@ module _ (e : ranked.Example) (rs : List Record) where
   break_decides stem p breaks.Mark =
       asked (eqb p n) (list_any (λ s. g.marked s.node) (drop stem rs)) (Decides-eqb p n) (λ h. mark_decides stem)
 
-  module _ (h : ranked.Holds e) (found : known ≡ true) where
+  module _ (h : graphs.Holds e) (found : known ≡ true) where
     covers_decides : (p j : ℕ) → j < length e.entries → (entry_at e j).node ≡ node_at rs p
         → Decides (covers (at p) (entry_at e j)) ((l w : ℕ) → g.edge (node_at rs p) l w ≡ true → Met p w)
     covers_decides p j low same =
@@ -287,7 +286,7 @@ kind_of_rule Break (of.Keep r) e = absurd (cc)
 kind_of_rule Break (of.Break r) e = refl
 
 -- tests of a slip
-module _ (e : ranked.Example) (c : Certificate) where
+module _ (e : Worked) (c : Certificate) where
   abbrev test : ℕ → Rule → Bool
   test p r = rule_test e c.records c.kind c.stem p r
 
@@ -322,7 +321,7 @@ module _ (e : ranked.Example) (c : Certificate) where
         q.1,
       )
 
-  module _ (h : ranked.Holds e) (found : known e c.records ≡ true) where
+  module _ (h : graphs.Holds e) (found : known e c.records ≡ true) where
     decides : (p : ℕ) (r : Rule) → Decides (test p r) (rules.Holds (graph_of e) c p r)
     decides = rule_decides e c.records h found c.kind c.stem
 
@@ -365,7 +364,7 @@ kind_told Keep false a b F t forbidden cycle words = words
 kind_told Break true a b F t forbidden cycle words = forbidden cycle
 kind_told Break false a b F t forbidden cycle words = absurd (cc)
 
-module _ (e : ranked.Example) where
+module _ (e : Worked) where
   abbrev size : ℕ
   size = length e.entries
 
@@ -375,7 +374,7 @@ module _ (e : ranked.Example) where
   tells (passes c) = meets e c
   tells (refused c b) = breaks_first e c b
 
-  tells_holds : ranked.Holds e → (t : Told) → tells t ≡ true → here.HoldsFor (means e.duty) (means e.rule) t
+  tells_holds : graphs.Holds e → (t : Told) → tells t ≡ true → here.HoldsFor (means e.duty) (means e.rule) t
   tells_holds h (verdict kind nodes) t =
       let a = means e.duty in
       let b = means e.rule in
@@ -404,28 +403,28 @@ module _ (e : ranked.Example) where
 
 -- the graph of each example, by its number
 abbrev numbers : List ℕ
-numbers = 0 ∷ 1 ∷ 2 ∷ 5 ∷ 6 ∷ 7 ∷ 8 ∷ 0 ∷ 0 ∷ 0 ∷ 1 ∷ 1 ∷ 0 ∷ []
+numbers = 0 ∷ 1 ∷ 2 ∷ 3 ∷ 4 ∷ 5 ∷ 6 ∷ 0 ∷ 0 ∷ 0 ∷ 1 ∷ 1 ∷ 0 ∷ []
 
-abbrev absent : ranked.Example
-absent = record { duty = no_start; rule = no_start; entries = []; marked = []; others = []; cycle = false }
+abbrev absent : Worked
+absent = record { duty = no_start; rule = no_start; entries = []; cycle = false }
 
-abbrev worked : ℕ → ranked.Example
-worked k = slice_index_or ranked.examples k absent
+abbrev graph_at : ℕ → Worked
+graph_at k = slice_index_or worked k absent
 
 abbrev chosen : List (ℕ × Told)
 chosen = zip numbers (map (λ x. x.told) examples)
 
 abbrev retold : ℕ × Told → Example
-retold x = example (worked x.0).duty (worked x.0).rule x.1
+retold x = example (graph_at x.0).duty (graph_at x.0).rule x.1
 
 abbrev holds_test : ℕ × Told → Bool
-holds_test x = ltb x.0 (length ranked.examples) && tells (worked x.0) x.1
+holds_test x = ltb x.0 (length worked) && tells (graph_at x.0) x.1
 
 test_holds : (x : ℕ × Told) → holds_test x ≡ true → Holds (retold x)
 test_holds x t =
-    let p = and_parts (ltb x.0 (length ranked.examples)) (tells (worked x.0) x.1) t in
-    let h = graphs.examples_hold.graphs x.0 absent (ltb-true x.0 (length ranked.examples) p.0) in
-    record { charts = h.charts; told = tells_holds (worked x.0) h x.1 p.1 }
+    let p = and_parts (ltb x.0 (length worked)) (tells (graph_at x.0) x.1) t in
+    let h = graphs_hold x.0 absent (ltb-true x.0 (length worked) p.0) in
+    record { charts = h.charts; told = tells_holds (graph_at x.0) h x.1 p.1 }
 
 same_examples : map retold chosen ≡ examples
 same_examples = refl

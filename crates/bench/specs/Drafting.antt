@@ -1,5 +1,5 @@
 -- What the parts of judge promise each other.
-use Rattle.std.specs.Prelude.{◌≡◌, ℕ, ◌<◌, List, length, Some, None, Option}
+use Rattle.std.specs.Prelude.{◌≡◌, ℕ, ◌<◌, List, length, Some, None, Option, Result, MatchResult}
 use Rattle.bench.specs.Calls.{Drafts}
 use Rattle.bench.specs.Slips.{form_of, over}
 use Rattle.bench.specs.Verdicts.{Decides}
@@ -53,3 +53,6 @@ module _ (a b : Automaton) (room : ℕ) (was table : List Record) where
 
   abbrev pub SearchRefused : BenchFault → Type 0
   SearchRefused e = Overrun (ranked_graph a b) room e × (table ≡ was)
+
+  abbrev pub SearchTells : Result (Verdict × Form) BenchFault → Type 0
+  SearchTells r = MatchResult r (λ found. Searched found.0 found.1) SearchRefused

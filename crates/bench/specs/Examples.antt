@@ -4,9 +4,9 @@ use Rattle.std.specs.List.{All}
 use Rattle.bench.specs.Slips.{Fits}
 use Rattle.bench.specs.Verdicts.{Decides}
 use Rattle.chart.specs.Automata.{Automaton}
+use Rattle.chart.specs.Kinds.{table}
 use Rattle.graph.specs.Walks.{More}
 use Rattle.rank.specs.Containment.{Charts}
-use Rattle.rank.specs.Examples.{TableChart, means, marked_loop, unmarked_loop, no_start, still}
 use Rattle.rank.specs.Ranked.{ranked_graph}
 use Rattle.rules.specs.declared.Breach.{Breach}
 use Rattle.rules.specs.declared.BreakRule.TheVariants as breaks
@@ -16,6 +16,31 @@ use Rattle.rules.specs.declared.Kind.TheVariants.{Keep, Break}
 use Rattle.rules.specs.declared.Rule.TheVariants as of
 use Rattle.slip.specs.Certificates.{Certificate}
 use Rattle.slip.specs.Rules.{FirstBreach, Meets}
+
+-- the numbers, sets and rows of a table chart
+pub record TableChart : Type 0 where
+  pub states : ℕ
+  pub letters : ℕ
+  pub starts : ℕ
+  pub marks : ℕ
+  pub rows : List ℕ
+
+abbrev pub means : TableChart → Automaton
+means t = table t.states t.letters t.starts t.marks t.rows
+
+-- one state, which steps to itself
+abbrev pub marked_loop : TableChart
+marked_loop = record { states = 1; letters = 1; starts = 0b1; marks = 0b1; rows = 0b1 ∷ [] }
+
+abbrev pub unmarked_loop : TableChart
+unmarked_loop = record { states = 1; letters = 1; starts = 0b1; marks = 0b0; rows = 0b1 ∷ [] }
+
+abbrev pub no_start : TableChart
+no_start = record { states = 1; letters = 1; starts = 0b0; marks = 0b0; rows = 0b1 ∷ [] }
+
+-- one state, and no steps
+abbrev pub still : TableChart
+still = record { states = 1; letters = 1; starts = 0b1; marks = 0b0; rows = 0b0 ∷ [] }
 
 -- what is told of a duty and a rule
 pub data Told : Type 0 where
@@ -46,9 +71,9 @@ examples =
     example marked_loop unmarked_loop (verdict Break 6)
     ∷ example marked_loop marked_loop (verdict Keep 3)
     ∷ example unmarked_loop unmarked_loop (verdict Keep 4)
-    ∷ example marked_loop (still 1) (verdict Break 3)
+    ∷ example marked_loop still (verdict Break 3)
     ∷ example marked_loop no_start (verdict Break 2)
-    ∷ example (still 1) unmarked_loop (verdict Keep 1)
+    ∷ example still unmarked_loop (verdict Keep 1)
     ∷ example no_start unmarked_loop (verdict Keep 0)
     ∷ example marked_loop unmarked_loop (full 5)
     ∷ example marked_loop unmarked_loop (passes (slip Break 1 (12288 ∷ 8224 ∷ 8192 ∷ [])))

@@ -5,6 +5,7 @@ pub mod Verdicts
 pub mod Shown
 pub mod Making
 pub mod Calls
+pub mod Tellings
 pub mod Histories
 pub mod Drafting
 pub mod Examples

@@ -26,10 +26,11 @@ pub struct Bench<D, R> {
 }
 
 impl<D: Chart + Drop, R: Chart + Drop> Bench<D, R> {
-    ghost use Rattle.std.specs.Prelude.{List, IfOk, MatchResult};
+    ghost use Rattle.std.specs.Prelude.{List, [], IfOk, MatchResult};
     ghost use Rattle.bench.specs.Calls.{Sized};
     ghost use Rattle.bench.specs.Histories.{LedTo};
     ghost use Rattle.bench.specs.Making.{NewBench, NewRefused};
+    ghost use Rattle.bench.specs.Tellings.{Status};
 
     // The work of `new`.
     fn set_up(duty: D, rule: R, room: usize) -> Result<Bench<D, R>, BenchFault>
@@ -54,11 +55,13 @@ impl<D: Chart + Drop, R: Chart + Drop> Bench<D, R> {
         })
     }
 
-    // An empty bench. Refused by 5 where the charts differ in letters, then by 6 where the rule has more than 6 states, then by 7
-    // where the room is not from 1 to 65,536.
+    // An empty bench for a duty and a rule, which are a system and its specification, and a room for so many nodes of their ranked graph.
+    //
+    // Refused by 5 where the charts differ in letters, then by 6 where the rule has more than 6 states, then by 7 where the room is not
+    // from 1 to 65,536. A refusal lets the charts go.
     pub fn new(duty: D, rule: R, room: usize) -> Result<Bench<D, R>, BenchFault>
         ensures answer { MatchResult result (NewBench D.Chart.meaning R.Chart.meaning duty rule room) (NewRefused (D.Chart.meaning duty) (R.Chart.meaning rule) room) }
-        ensures law { IfOk result (λ s. (table : List Record) → Sized room table → LedTo D.Chart.meaning R.Chart.meaning (D.Chart.meaning duty) (R.Chart.meaning rule) room s table) }
+        ensures law { IfOk result (λ s. (table : List Record) → Sized room table → LedTo D.Chart.meaning R.Chart.meaning (D.Chart.meaning duty) (R.Chart.meaning rule) room [] Status.empty s table) }
     {
         Bench::set_up(duty, rule, room)
     }
@@ -67,6 +70,8 @@ impl<D: Chart + Drop, R: Chart + Drop> Bench<D, R> {
 impl<D: Chart, R: Chart> Bench<D, R> {
     ghost use Rattle.ranked.specs.Refused.{Made};
     ghost use Rattle.bench.specs.Benches.{duty_on, rule_on};
+    ghost use Rattle.bench.specs.Histories.{AlteredIsNotLedTo, OneTold, StateTold};
+    ghost use Rattle.bench.specs.Tellings.{AskedAlike};
 
     // The ranked graph of the two charts, which are asked anew.
     pub(crate) fn map(&self) -> RankedMap
@@ -75,10 +80,23 @@ impl<D: Chart, R: Chart> Bench<D, R> {
         RankedMap::new(&self.duty, &self.rule).unwrap()
     }
 
-    // Whether it has a slip, and which.
-    pub fn state(&self) -> State
+    // The work of `state`.
+    fn held(&self) -> State
         ensures { result ≡ self.now.state }
     {
         self.state
+    }
+
+    // Whether it has a slip, and which. It is what the calls tell that were made since the bench was: a function of what was asked,
+    // of judge's answers and of the tables that judge left, up to how many of the first records of such a table a break slip of
+    // judge has, and its loop place; of one bench they tell one thing.
+    pub fn state(&self) -> State
+        ensures answer { result ≡ self.now.state }
+        ensures told { StateTold D.Chart.meaning R.Chart.meaning self.now result }
+        ensures one { OneTold D.Chart.meaning R.Chart.meaning self.now }
+        ensures altered { AlteredIsNotLedTo D.Chart.meaning R.Chart.meaning self.now }
+        ensures alike { AskedAlike }
+    {
+        self.held()
     }
 }

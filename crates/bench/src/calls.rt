@@ -1,8 +1,8 @@
 // The calls that need no search: put, inspect, release and clear.
-ghost use Rattle.std.specs.Prelude.{◌≡◌, ◌≤◌, ℕ, List, length, MatchOption, MatchResult};
+ghost use Rattle.std.specs.Prelude.{◌≡◌, ◌≤◌, MatchResult};
 ghost use Rattle.bench.specs.Slips.{Fits};
+ghost use Rattle.bench.specs.Tellings.{Call};
 ghost use Rattle.bench.specs.declared.states.State.TheVariants as states;
-ghost use Rattle.chart.specs.Automata.{Automaton};
 ghost use Rattle.fault.specs.declared.BenchFault.TheVariants as faults;
 
 use crate::benches::Bench;
@@ -28,10 +28,10 @@ fn check_fit(room: usize, kind: Kind, stem: usize, records: &[Record]) -> Result
 impl<D: Chart, R: Chart> Bench<D, R> {
     ghost use Rattle.bench.specs.Benches.{SameBench, duty_on, rule_on};
     ghost use Rattle.bench.specs.Calls.{Formed, InspectTells, PutTells, ReleaseTells, Sized};
-    ghost use Rattle.bench.specs.Histories.{HandsOut, Law, LedTo, NoPassed};
+    ghost use Rattle.bench.specs.Histories.{Clears, Hands, Law};
     ghost use Rattle.bench.specs.Slips.{Fitting, slip_at};
     ghost use Rattle.rank.specs.Ranked.{ranked_graph};
-    ghost use Rattle.slip.specs.Rules.{FirstBreach, Meets};
+    ghost use Rattle.slip.specs.Rules.{BreachTold};
 
     // Refused by 7 where the slip table does not have twice as many records as the room.
     pub(crate) fn check_table(&self, table: &[Record]) -> Result<(), BenchFault>
@@ -73,8 +73,11 @@ impl<D: Chart, R: Chart> Bench<D, R> {
         Ok(())
     }
 
-    // Puts a slip into the first records of the table. Refused by 7 where the table does not have twice as many records as the
-    // room, then by 10 where there is a slip, then by 9 where the slip does not fit.
+    // Takes a slip, which is a certificate, from anywhere: copies its records over the first of `table`, and leaves it drafted. Nothing is
+    // asked of what it holds; `stem` is its loop place, 0 for keep.
+    //
+    // Refused by 7 where `table` does not have twice as many records as the room, then by 10 where there is a slip, then by 9 where the slip
+    // has more records than `table`, or its loop place does not go with its kind. A refusal alters nothing.
     pub fn put(
         &mut self,
         kind: Kind,
@@ -84,7 +87,7 @@ impl<D: Chart, R: Chart> Bench<D, R> {
     ) -> Result<(), BenchFault>
         ensures answer { PutTells (duty_on D.Chart.meaning self.old) (rule_on R.Chart.meaning self.old) self.old.room self.old.state table.old (record { kind = kind; stem = stem; records = records.now }) self.new.state table.new result }
         ensures bench { SameBench self.old self.new }
-        ensures law { Law D.Chart.meaning R.Chart.meaning self.old table.old self.new table.new (λ a b n. PutTells a b n self.old.state table.old (record { kind = kind; stem = stem; records = records.now }) self.new.state table.new result) }
+        ensures law { Law D.Chart.meaning R.Chart.meaning (Call.put (record { kind = kind; stem = stem; records = records.now }) result) self.old table.old self.new table.new }
     {
         self.fill(kind, stem, records, table)
     }
@@ -97,11 +100,11 @@ impl<D: Chart, R: Chart> Bench<D, R> {
         self.state = State::Empty;
     }
 
-    // Takes the slip away. The table stays as it is.
+    // Takes the slip away, if there is one. It is never refused, and the table, which is not lent, stays as it is.
     pub fn clear(&mut self)
         ensures state { self.new.state ≡ states.Empty }
         ensures bench { SameBench self.old self.new }
-        ensures law { (a b : Automaton) (n : ℕ) (table : List Record) → LedTo D.Chart.meaning R.Chart.meaning a b n self.old table → LedTo D.Chart.meaning R.Chart.meaning a b n self.new table }
+        ensures law { Clears D.Chart.meaning R.Chart.meaning self.old self.new }
     {
         self.forget();
     }
@@ -117,7 +120,7 @@ impl<D: Chart, R: Chart> Bench<D, R> {
     fn first_breach(&self, form: Form, table: &[Record]) -> Option<Breach>
         requires sized { Sized self.now.room table.now }
         requires fitting { Fitting self.now.room form }
-        ensures { MatchOption result (Meets (ranked_graph (duty_on D.Chart.meaning self.now) (rule_on R.Chart.meaning self.now)) (slip_at form table.now)) (FirstBreach (ranked_graph (duty_on D.Chart.meaning self.now) (rule_on R.Chart.meaning self.now)) (slip_at form table.now)) }
+        ensures { BreachTold (ranked_graph (duty_on D.Chart.meaning self.now) (rule_on R.Chart.meaning self.now)) (slip_at form table.now) result }
     {
         form.slip(table).first_breach(&self.map(), NO_WORD)
     }
@@ -137,13 +140,16 @@ impl<D: Chart, R: Chart> Bench<D, R> {
         Ok(())
     }
 
-    // Goes through the slip record by record, and leaves it passed if it meets the rules of its kind. Refused by 7 where the table
-    // does not have twice as many records as the room, then by 11 where there is no slip, then by 14 where a rule is broken, which
-    // leaves the slip drafted.
+    // Checks the certificate: goes through the slip record by record, and leaves it passed exactly if it meets the rules of its kind over the
+    // ranked graph. A passed slip may be inspected again.
+    //
+    // Refused by 7 where `table` does not have twice as many records as the room, then by 11 where there is no slip, then by 14 where a
+    // rule is broken, which tells the lowest place and there the lowest rule. 14 leaves the slip drafted, also where it was passed; any
+    // other refusal alters nothing.
     pub fn inspect(&mut self, table: &[Record]) -> Result<(), BenchFault>
         ensures answer { InspectTells (duty_on D.Chart.meaning self.old) (rule_on R.Chart.meaning self.old) self.old.room self.old.state table.now self.new.state result }
         ensures bench { SameBench self.old self.new }
-        ensures law { Law D.Chart.meaning R.Chart.meaning self.old table.now self.new table.now (λ a b n. InspectTells a b n self.old.state table.now self.new.state result) }
+        ensures law { Law D.Chart.meaning R.Chart.meaning (Call.inspect result) self.old table.now self.new table.now }
     {
         self.examine(table)
     }
@@ -160,13 +166,15 @@ impl<D: Chart, R: Chart> Bench<D, R> {
         }
     }
 
-    // Hands out the loop of a passed break slip, or the whole of a passed keep slip, which is a part of the table. Refused by 7 where
-    // the table does not have twice as many records as the room, then by 11 where there is no slip, then by 12 where it is not
-    // passed.
+    // Hands out the part of `table` that is the loop of a passed break slip, a counterexample's cycle, or the whole of a passed keep slip. It
+    // alters nothing.
+    //
+    // Refused by 7 where `table` does not have twice as many records as the room, then by 11 where there is no slip, then by 12 where it is
+    // not passed.
     pub fn release<'a>(&self, table: &'a [Record]) -> Result<&'a [Record], BenchFault>
         ensures answer { ReleaseTells (duty_on D.Chart.meaning self.now) (rule_on R.Chart.meaning self.now) self.now.room self.now.state table.now result }
-        ensures law { Law D.Chart.meaning R.Chart.meaning self.now table.now self.now table.now (λ a b n. ReleaseTells a b n self.now.state table.now result) }
-        ensures hands { (a b : Automaton) (n : ℕ) → LedTo D.Chart.meaning R.Chart.meaning a b n self.now table.now → MatchResult result (λ out. HandsOut a b self.now.state table.now out.now) (λ e. NoPassed self.now.state) }
+        ensures law { Law D.Chart.meaning R.Chart.meaning (Call.release result) self.now table.now self.now table.now }
+        ensures hands { Hands D.Chart.meaning R.Chart.meaning self.now table.now result }
     {
         self.hand_out(table)
     }

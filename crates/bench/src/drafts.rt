@@ -48,6 +48,6 @@ pub(crate) fn write_break<M: Map>(
     requires sized { length table.old ≡ 2 * length work.old }
     ensures { (n : ℕ) → Wrote (M.Map.graph map.now [] 0) (length work.old) (record { kind = kinds.Break; nodes = n }) table.old table.new result }
 {
-    let extent = write_lasso(map, NO_WORD, node, work, table).unwrap();
-    Form::of_lasso(extent)
+    let lasso = write_lasso(map, NO_WORD, node, work, table).unwrap();
+    Form::of_lasso(lasso.unwrap())
 }

@@ -43,12 +43,14 @@ fn write_slip<M: Map>(map: &M, found: Findings, work: &mut [Record], table: &mut
 impl<D: Chart, R: Chart> Bench<D, R> {
     ghost use Rattle.bench.specs.Benches.{SameBench, duty_on, rule_on};
     ghost use Rattle.bench.specs.Calls.{JudgeTells, Sized, WillPass};
-    ghost use Rattle.bench.specs.Drafting.{Overrun, Searched, SearchRefused};
+    ghost use Rattle.bench.specs.Drafting.{Overrun, SearchTells};
     ghost use Rattle.bench.specs.Histories.{Law};
+    ghost use Rattle.bench.specs.Tellings.{Call};
     ghost use Rattle.fault.specs.declared.BenchFault.TheVariants as faults;
 
-    // Refused by 7 where the work table does not have as many records as the room.
-    fn check_work(&self, work: &[Record]) -> Result<(), BenchFault>
+    // Refused by 7 where `work` does not have as many records as the room, as judge would be: for who wants to know before it puts a slip.
+    // It alters nothing.
+    pub fn check_work(&self, work: &[Record]) -> Result<(), BenchFault>
         ensures { MatchResult result (λ _. length work.now ≡ self.now.room) (λ e. (e ≡ faults.Room) × (length work.now ≡ self.now.room → ⊥)) }
     {
         if work.len() != self.room {
@@ -74,7 +76,7 @@ impl<D: Chart, R: Chart> Bench<D, R> {
     ) -> Result<(Verdict, Form), BenchFault>
         requires sized { Sized self.now.room table.old }
         requires work_sized { length work.old ≡ self.now.room }
-        ensures { MatchResult result (λ r. Searched (duty_on D.Chart.meaning self.now) (rule_on R.Chart.meaning self.now) self.now.room table.old table.new r.0 r.1) (SearchRefused (duty_on D.Chart.meaning self.now) (rule_on R.Chart.meaning self.now) self.now.room table.old table.new) }
+        ensures { SearchTells (duty_on D.Chart.meaning self.now) (rule_on R.Chart.meaning self.now) self.now.room table.old table.new result }
     {
         let map = self.map();
         let found = self.survey(&map, work)?;
@@ -95,9 +97,12 @@ impl<D: Chart, R: Chart> Bench<D, R> {
         Ok(verdict)
     }
 
-    // Searches the ranked graph, writes a slip for what it finds into the first records of the table, and tells the verdict. Refused
-    // by 7 where the table does not have twice as many records as the room, or the work table as many; then by 10 where there is
-    // a slip; then by 13 where more nodes can be reached than there is room for.
+    // Does the rule take every repeating word that the duty takes? Searches their ranked graph, which is Kupferman and Vardi's, for an
+    // accepting cycle, tells the verdict and how many nodes can be reached, and leaves a slip for it drafted, a certificate that inspect
+    // passes: it stands in the first records of `table`, and the others are as they were. `work` is free then.
+    //
+    // Refused by 7 where `table` does not have twice as many records as the room, or `work` as many; then by 10 where there is a slip;
+    // then by 13 where more nodes can be reached than the room. A refusal alters nothing, but 13 leaves `work` free.
     pub fn judge(
         &mut self,
         table: &mut [Record],
@@ -106,7 +111,7 @@ impl<D: Chart, R: Chart> Bench<D, R> {
         ensures answer { JudgeTells (duty_on D.Chart.meaning self.old) (rule_on R.Chart.meaning self.old) self.old.room self.old.state table.old work.old self.new.state table.new work.new result }
         ensures bench { SameBench self.old self.new }
         ensures passes { IfOk result (λ v. WillPass (duty_on D.Chart.meaning self.new) (rule_on R.Chart.meaning self.new) self.new.room self.new.state table.new) }
-        ensures law { Law D.Chart.meaning R.Chart.meaning self.old table.old self.new table.new (λ a b n. JudgeTells a b n self.old.state table.old work.old self.new.state table.new work.new result) }
+        ensures law { Law D.Chart.meaning R.Chart.meaning (Call.judge table.new result) self.old table.old self.new table.new }
     {
         self.draft(table, work)
     }

@@ -138,7 +138,7 @@ impl Fault for LassoFault {
 // The survey of a graph is refused.
 #[derive(Clone, Copy, PartialEq, Eq, Debug)]
 pub enum SearchFault {
-    // the work table has no record, or more than 65,536
+    // the work table has no record, or more than 65,536; or a lasso is to be written into fewer than twice as many
     Table,
     // the reachable nodes are more than the records of the work table
     Full,

@@ -27,8 +27,14 @@ abbrev pub Behind : Option ℕ → Option ℕ → Type 0
 Behind from None = Unit {0}
 Behind from (Some v) = Passed from v → ⊥
 
+-- where there is none, they go on where they did, so that none comes afterwards
+abbrev pub Stays : Option ℕ → Option ℕ → Option ℕ → Type 0
+Stays from None after = after ≡ from
+Stays from (Some v) after = Unit {0}
+
 pub record Rises {M : Type 0} (graph : M → List ℕ → ℕ → Graph) (s : Rising M) (r : Option ℕ) (t : Rising M) : Type 0 where
   pub same_graph : t.graph ≡ s.graph
   pub same_nodes : t.nodes ≡ s.nodes
   pub gives : Next (among (graph_of graph s.graph) s.nodes) s.from r t.from
   pub behind : Behind s.from r
+  pub stays : Stays s.from r t.from

@@ -104,7 +104,8 @@ impl<'a, M: Map> Iterator for Rising<'a, M> {
     ghost remaining = { λ s. numbers_from s.from };
 
     fn next(&mut self) -> Option<u64> {
-        let next = self.graph.least(self.nodes, self.from?)?;
+        let from = self.from?;
+        let next = self.graph.least(self.nodes, from)?;
         self.from = next.checked_add(1);
         Some(next)
     }

@@ -12,11 +12,11 @@ pub struct Lasso<'a, T> {
 }
 
 impl<'a, T> Lasso<'a, T> {
-    ghost use Rattle.lasso.specs.Found.{PlaceAt, PlaceAfter};
+    ghost use Rattle.lasso.specs.Found.{PlaceAt, PlaceAfter, ElementAt};
     ghost use Rattle.lasso.specs.Positions.{IsLasso};
     ghost use Rattle.lasso.specs.Refused.{IsRefused};
 
-    // Refused by `Limits` where there is no element or more than 131,072, or the stem is not below the length.
+    // Refused by 8 (`Limits`) where there is no element or more than 131,072, or the stem is not below the length.
     pub fn check(&self) -> Result<(), LassoFault>
         ensures { MatchResult result (λ _. IsLasso (length self.now.elements.now) self.now.stem) (IsRefused self.now) }
     {
@@ -28,7 +28,7 @@ impl<'a, T> Lasso<'a, T> {
         }
     }
 
-    // The place at which a position stands.
+    // The place at which a position stands, which may be any number: those past the last place go round the loop. Refused as `check` is.
     pub fn place(&self, position: usize) -> Result<usize, LassoFault>
         ensures { MatchResult result (PlaceAt (length self.now.elements.now) self.now.stem position) (IsRefused self.now) }
     {
@@ -40,7 +40,7 @@ impl<'a, T> Lasso<'a, T> {
         Ok(self.stem + (position - self.stem) % (n - self.stem))
     }
 
-    // The place after a place.
+    // The place after a place. Refused as `check` is.
     pub fn after(&self, at: usize) -> Result<usize, LassoFault>
         ensures { MatchResult result (PlaceAfter (length self.now.elements.now) self.now.stem at) (IsRefused self.now) }
     {
@@ -51,17 +51,12 @@ impl<'a, T> Lasso<'a, T> {
             Ok(self.stem)
         }
     }
-}
 
-impl<'a, T: Copy> Lasso<'a, T> {
-    ghost use Rattle.lasso.specs.Found.{ElementAt};
-    ghost use Rattle.lasso.specs.Refused.{IsRefused};
-
-    // The element at a position.
-    pub fn element(&self, position: usize) -> Result<T, LassoFault>
-        ensures { MatchResult result (ElementAt self.now.elements.now self.now.stem position) (IsRefused self.now) }
+    // The element at a position, which may be any number. It is lent, of whatever type; copying is the caller's. Refused as `check` is.
+    pub fn element(&self, position: usize) -> Result<&'a T, LassoFault>
+        ensures { MatchResult result (λ x. ElementAt self.now.elements.now self.now.stem position x.now) (IsRefused self.now) }
     {
         let at = self.place(position)?;
-        Ok(self.elements[at])
+        Ok(&self.elements[at])
     }
 }

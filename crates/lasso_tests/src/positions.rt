@@ -28,6 +28,12 @@ const ENTRIES: [Entry; 3] = [
     },
 ];
 
+// An entry that cannot be copied.
+#[derive(Drop, PartialEq, Eq, Debug)]
+struct Owned {
+    state: u32,
+}
+
 fn repeated<T>(elements: &[T], stem: usize) -> Lasso<'_, T> {
     Lasso { elements, stem }
 }
@@ -168,19 +174,19 @@ fn places_after(rt: HostRuntime) -> Result<(), Fail> {
 fn letters(rt: HostRuntime) -> Result<(), Fail> {
     assert_eq!(rt;
         [
-            repeated(&LETTERS, 2).element(0)?,
-            repeated(&LETTERS, 2).element(1)?,
-            repeated(&LETTERS, 2).element(4)?,
-            repeated(&LETTERS, 2).element(5)?,
-            repeated(&LETTERS, 2).element(3_000_003)?,
-            repeated(&LETTERS, 2).element(usize::MAX)?,
+            *repeated(&LETTERS, 2).element(0)?,
+            *repeated(&LETTERS, 2).element(1)?,
+            *repeated(&LETTERS, 2).element(4)?,
+            *repeated(&LETTERS, 2).element(5)?,
+            *repeated(&LETTERS, 2).element(3_000_003)?,
+            *repeated(&LETTERS, 2).element(usize::MAX)?,
         ],
         [10, 11, 14, 12, 13, 13]
     );
     assert_eq!(rt;
         [
-            repeated(&LETTERS, 0).element(5)?,
-            repeated(&LETTERS, 4).element(5)?,
+            *repeated(&LETTERS, 0).element(5)?,
+            *repeated(&LETTERS, 4).element(5)?,
         ],
         [10, 14]
     );
@@ -193,12 +199,12 @@ fn entries(rt: HostRuntime) -> Result<(), Fail> {
     let [first, second, third] = ENTRIES;
     assert_eq!(rt;
         [
-            repeated(&ENTRIES, 1).element(0)?,
-            repeated(&ENTRIES, 1).element(1)?,
-            repeated(&ENTRIES, 1).element(2)?,
-            repeated(&ENTRIES, 1).element(3)?,
-            repeated(&ENTRIES, 1).element(1_000_000)?,
-            repeated(&ENTRIES, 1).element(usize::MAX)?,
+            *repeated(&ENTRIES, 1).element(0)?,
+            *repeated(&ENTRIES, 1).element(1)?,
+            *repeated(&ENTRIES, 1).element(2)?,
+            *repeated(&ENTRIES, 1).element(3)?,
+            *repeated(&ENTRIES, 1).element(1_000_000)?,
+            *repeated(&ENTRIES, 1).element(usize::MAX)?,
         ],
         [first, second, third, second, third, second]
     );
@@ -208,11 +214,37 @@ fn entries(rt: HostRuntime) -> Result<(), Fail> {
     );
     assert_eq!(rt;
         repeated(&ENTRIES, 3).element(0),
-        Err::<Entry, LassoFault>(LassoFault::Limits)
+        Err::<&Entry, LassoFault>(LassoFault::Limits)
     );
     assert_eq!(rt;
         repeated(&ENTRIES[0..0], 0).after(0),
         Err::<usize, LassoFault>(LassoFault::Limits)
+    );
+    Ok(())
+}
+
+// The stem is 10 and 11, the loop is 12: each element is lent as it is.
+#[test]
+fn not_copied(rt: HostRuntime) -> Result<(), Fail> {
+    let owned = [
+        Owned { state: 10 },
+        Owned { state: 11 },
+        Owned { state: 12 },
+    ];
+    let lasso = repeated(&owned, 2);
+    assert_eq!(rt;
+        [
+            lasso.element(0)?,
+            lasso.element(1)?,
+            lasso.element(2)?,
+            lasso.element(usize::MAX)?,
+        ],
+        [&owned[0], &owned[1], &owned[2], &owned[2]]
+    );
+    assert_eq!(rt; lasso.element(1)?.state, 11);
+    assert_eq!(rt;
+        repeated(&owned, 3).element(0),
+        Err::<&Owned, LassoFault>(LassoFault::Limits)
     );
     Ok(())
 }

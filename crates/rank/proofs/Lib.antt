@@ -15,4 +15,3 @@ pub mod Folding
 pub mod OddRankings
 pub mod Complete
 pub mod Deciding
-pub mod WorkedExamples

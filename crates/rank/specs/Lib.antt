@@ -6,4 +6,3 @@ pub mod Containment
 pub mod Subsets
 pub mod Complement
 pub mod Numbering
-pub mod Examples

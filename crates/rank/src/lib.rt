@@ -3,11 +3,9 @@
 #![tactic(auto)]
 
 mod containment;
-mod examples;
 mod numbering;
 
 pub use containment::{
     cycles_decide, lassos_tell, measures_tell, ranked_complements, taking_is_decided,
 };
-pub use examples::examples_hold;
 pub use numbering::numbers_correspond;

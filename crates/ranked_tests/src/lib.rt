@@ -12,3 +12,5 @@ mod loops;
 mod pairs;
 #[cfg(test)]
 mod samples;
+#[cfg(test)]
+mod wholes;

@@ -1,6 +1,6 @@
 // The ranked graph of one marked state with a loop and the same unmarked, by hand. The number of a node is 32 if the turn
 // is set, and 64 if the state is owed, and 4,096 for each rank and one more.
-use crate::samples::{Row, begins, leads, no_nodes, tells};
+use crate::samples::{Row, begins, leads, no_nodes, tells, witnessed};
 use chart::Table;
 use graph::Map;
 use lasso::NO_WORD;
@@ -30,7 +30,7 @@ fn reachable_nodes(rt: HostRuntime) -> Result<(), Fail> {
     assert_eq!(rt; map.letters(NO_WORD), 1);
     begins(&rt, &map, &[12288]);
     tells(&rt, &map, &NODES, &[8224]);
-    Ok(())
+    witnessed(&rt, &map, &NODES, &[8224])
 }
 
 #[test]

@@ -1,7 +1,9 @@
 // What a map is expected to answer.
 use graph::Map;
 use lasso::NO_WORD;
+use search::{Record, survey};
 use std::process::Abort;
+use std::test::Fail;
 
 // A node, and its successors by each letter.
 pub(crate) type Row = (u64, &'static [&'static [u64]]);
@@ -67,4 +69,58 @@ pub(crate) fn no_nodes<M: Map>(rt: &impl Abort, map: &M, numbers: &[u64]) {
         assert!(rt; !map.is_marked(NO_WORD, *v), "{}", *v);
         leads(rt, map, *v, 0, &[]);
     }
+}
+
+// A record of a table that has been in use.
+const USED: Record = Record {
+    node: 7,
+    letter: 9,
+    measure: 77,
+};
+
+// The record of a node among the first ones. Their count is handed in beside the table, as an answer that a test is of and that
+// may be wrong.
+fn record_of(work: &[Record], count: usize, node: u64) -> Option<&Record> {
+    work.iter().take(count).find(|record| record.node == node)
+}
+
+// A search finds these nodes and no others, with these measures, since no marked node lies on a cycle.
+pub(crate) fn measured<M: Map>(
+    rt: &impl Abort,
+    map: &M,
+    rows: &[Row],
+    measures: &[u32],
+) -> Result<(), Fail> {
+    let mut work = [USED; 30];
+    let found = survey(map, NO_WORD, &mut work)?;
+    assert_eq!(rt; found.witness, None);
+    assert_eq!(rt; found.count, rows.len());
+    assert_eq!(rt; measures.len(), rows.len());
+    for ((node, _), measure) in rows.iter().zip(measures) {
+        let told = record_of(&work, found.count, *node).map(|record| record.measure);
+        assert_eq!(rt; told, Some(*measure), "{}", *node);
+    }
+    Ok(())
+}
+
+// A search finds these nodes and no others, and names one of the witnesses.
+pub(crate) fn witnessed<M: Map>(
+    rt: &impl Abort,
+    map: &M,
+    rows: &[Row],
+    witnesses: &[u64],
+) -> Result<(), Fail> {
+    let mut work = [USED; 30];
+    let found = survey(map, NO_WORD, &mut work)?;
+    assert_eq!(rt; found.count, rows.len());
+    for (node, _) in rows {
+        assert!(rt; record_of(&work, found.count, *node).is_some(), "{}", *node);
+    }
+    let witness = found.witness.ok_or_else(|| Fail::new("no witness"))?;
+    assert!(rt;
+        witnesses.contains(&witness),
+        "another witness: {}",
+        witness
+    );
+    Ok(())
 }

@@ -1,28 +1,56 @@
 -- What a certified verdict tells.
-use Rattle.std.proofs.Common.{◌≡◌, ℕ, ◌+◌, ◌<◌, List, ◌++◌, length, get_or, Ok, Err, Result, MatchResult, IfOk, subst, sym, arith, length-append}
-use Rattle.std.proofs.lemmas.List.{get_or_append_left, get_or-append-add, get_or-map, length-map}
+use Rattle.std.proofs.Common.{◌≡◌, ◌∙◌, ℕ, ◌<◌, ◌≤◌, List, length, drop, take, get_or, Ok, Err, Result, MatchResult, IfOk, ap, subst, sym, arith}
+use Rattle.std.proofs.Math.Seq.{take-append_seam}
+use Rattle.std.proofs.lemmas.List.{get_or-map, length-map}
+use Rattle.bench.specs.declared.states.Form.{Form}
 use Rattle.bench.specs.declared.verdicts.Verdict.{Verdict}
 use Rattle.chart.specs.Automata.{Automaton}
-use Rattle.report.specs.Courses.{Lettered, Tells, TellsBoth}
-use Rattle.report.specs.Decided.{CertifiesBoth, DecidesBoth}
+use Rattle.report.specs.Counterexamples.{Lettered, Tells, TellsBoth}
+use Rattle.fault.specs.declared.BenchFault.{BenchFault}
+use Rattle.fault.specs.declared.BenchFault.TheVariants as faults
+use Rattle.fault.specs.declared.SearchFault.TheVariants.{Full}
+use Rattle.report.specs.Decided.{CertifiesBoth, ChartsTold, DecidesBoth}
 use Rattle.report.specs.Spelled.{Known}
-use Rattle.report.specs.declared.courses.Told.{Told}
-use Rattle.report.specs.declared.courses.Told.TheVariants.{Kept, Broken}
+use Rattle.report.specs.declared.refuting.Told.{Told}
+use Rattle.report.specs.declared.refuting.Told.TheVariants.{Kept, Broken}
 use Rattle.report.specs.declared.refusals.Refusal.{Refusal}
 use Rattle.rules.specs.declared.Kind.{Kind}
 use Rattle.rules.specs.declared.Kind.TheVariants.{Break}
 use Rattle.search.specs.Tables.{blank}
 use Rattle.search.specs.declared.records.Record.{Record}
+use Rattle.slip.specs.Shapes.{stems}
 use Rattle.slip.specs.Showing.{letters, ShowsFor}
-use Rattle.verdict.specs.Certified.{Certifies}
+use Rattle.verdict.specs.Certified.{Certifies, DecideTells}
 use Rattle.verdict.specs.declared.certifying.Certified.{Certified}
 
--- what break is shown by
-abbrev pub Shown : Automaton → Automaton → List Record → List Record → Type 0
-Shown a b stem cycle = ShowsFor a b Break (length stem) (stem ++ cycle)
+-- What break is shown by, of the first records of the table.
+abbrev pub Shown : Automaton → Automaton → Form → List Record → Type 0
+Shown a b f table = ShowsFor a b Break f.stem (take f.count table)
 
-pub break_shown : (a b : Automaton) (c : Certified) → Certifies a b 512 c → c.verdict.kind ≡ Break → Shown a b c.stem.now c.released.now
-break_shown a b c h e = subst (λ (k : Kind). ShowsFor a b k (length c.stem.now) (c.stem.now ++ c.released.now)) e h.shows
+module _ (a b : Automaton) (was table : List Record) (c : Certified) (h : Certifies a b 512 was table c) (e : c.verdict.kind ≡ Break) where
+  break_slip : h.slip.kind ≡ Break
+  break_slip = h.drafts.kind ∙ e
+
+  its_records : take c.form.count table ≡ h.slip.records
+  its_records =
+      ap (λ (f : Form). take f.count table) h.form
+      ∙ (ap (take (length h.slip.records)) h.changed ∙ take-append_seam h.slip.records (drop (length h.slip.records) was))
+
+  pub break_shown : Shown a b c.form table
+  break_shown =
+      let stem : h.slip.stem ≡ c.form.stem = sym (ap (λ (f : Form). f.stem) h.form) in
+      subst (λ (rs : List Record). ShowsFor a b Break c.form.stem rs) (sym its_records)
+      (subst (λ k. ShowsFor a b Break k h.slip.records) stem
+      (subst (λ (k : Kind). ShowsFor a b k h.slip.stem h.slip.records) break_slip h.shows))
+
+  pub break_fits : (c.form.count ≤ 1024) × (c.form.stem < c.form.count)
+  break_fits =
+      let count : c.form.count ≡ length h.slip.records = ap (λ (f : Form). f.count) h.form in
+      let stem : c.form.stem ≡ h.slip.stem = ap (λ (f : Form). f.stem) h.form in
+      let few = h.drafts.fits.few in
+      let placed : h.slip.stem < length h.slip.records =
+      subst (λ (k : Kind). h.slip.stem < stems k (length h.slip.records)) break_slip h.drafts.fits.placed in
+      (omega (arith, count, few), omega (arith, count, stem, placed))
 
 -- The letters of a word are known to be a chart's.
 pub letters_known : (n : ℕ) (rs : List Record) → n < 17 → ((k : ℕ) → k < length (letters rs) → get_or (letters rs) k 0 < n) → Known rs
@@ -32,41 +60,51 @@ letters_known n rs few known k lt =
     let below : get_or (letters rs) k 0 < n = known k (omega arith) in
     omega arith
 
-pub lettered : (duty rule : List ℕ) (c : Certified) → CertifiesBoth duty rule c → Lettered c
-lettered duty rule c h e =
-    letters_known h.a.letters (c.stem.now ++ c.released.now) (omega arith) (break_shown h.a h.b c h.certifies e).0.known
+pub lettered : (duty rule : List ℕ) (was table : List Record) (c : Certified) → CertifiesBoth duty rule was table c → Lettered c table
+lettered duty rule was table c h e =
+    let shown = break_shown h.a h.b was table c h.charts.certifies e in
+    let fits = break_fits h.a h.b was table c h.charts.certifies e in
+    record {
+      fits = fits.0;
+      placed = fits.1;
+      known = letters_known h.a.letters (take c.form.count table) (omega (arith, h.few_letters)) shown.0.known;
+    }
 
-pub if_lettered : (duty rule : List ℕ) (P : Refusal → Type 0) (r : Result Certified Refusal) → MatchResult r (CertifiesBoth duty rule) P → IfOk r Lettered
-if_lettered duty rule P (Ok c) h = lettered duty rule c h
-if_lettered duty rule P (Err e) h = tt
+pub if_lettered : (duty rule : List ℕ) (was table : List Record) (P : Refusal → Type 0) (r : Result Certified Refusal)
+    → MatchResult r (CertifiesBoth duty rule was table) P → IfOk r (λ c. Lettered c table)
+if_lettered duty rule was table P (Ok c) h = lettered duty rule was table c h
+if_lettered duty rule was table P (Err e) h = tt
 
--- Both parts of a list of records have known letters, if the whole has.
-pub first_known : (xs ys : List Record) → Known (xs ++ ys) → Known xs
-first_known xs ys h k lt =
-    subst (λ (r : Record). r.letter < 16) (get_or_append_left xs ys blank k lt)
-    (h k (omega (arith, length-append xs ys)))
-
-pub second_known : (xs ys : List Record) → Known (xs ++ ys) → Known ys
-second_known xs ys h k lt =
-    subst (λ (r : Record). r.letter < 16) (get_or-append-add xs ys k blank)
-    (h (length xs + k) (omega (arith, length-append xs ys)))
-
-pub told : (duty rule : List ℕ) (c : Certified) (t : Told) → CertifiesBoth duty rule c → Tells c t → TellsBoth duty rule t
-told duty rule c (Kept v) h t = (
+pub told : (duty rule : List ℕ) (was table : List Record) (c : Certified) (t : Told) → CertifiesBoth duty rule was table c → Tells c table t
+    → TellsBoth duty rule t
+told duty rule was table c (Kept v) h t = (
   subst (λ (w : Verdict). DecidesBoth duty rule w) (sym t.0)
-      (record { a = h.a; b = h.b; reads = h.reads; decides = h.certifies.decides }),
+      (record { a = h.a; b = h.b; reads = h.reads; go_together = h.charts.go_together; decides = h.charts.certifies.decides }),
   t.1,
 )
-told duty rule c (Broken course) h t =
-    let shown = subst (λ (s : List Record). Shown h.a h.b s course.cycle.records.now) (sym t.1)
-    (subst (λ (s : List Record). Shown h.a h.b c.stem.now s) (sym t.2) (break_shown h.a h.b c h.certifies t.0)) in
+told duty rule was table c (Broken x) h t =
+    let shown =
+    subst (λ (rs : List Record). Shown h.a h.b x.form rs) (sym t.2)
+    (subst (λ (f : Form). Shown h.a h.b f table) (sym t.1) (break_shown h.a h.b was table c h.charts.certifies t.0)) in
     record {
       a = h.a;
       b = h.b;
       reads = h.reads;
+      go_together = h.charts.go_together;
       verdict = c.verdict;
       breaks = t.0;
-      decides = h.certifies.decides;
+      decides = h.charts.certifies.decides;
       good = shown.0;
       alone = shown.1;
     }
+
+pub charts_told : (a b : Automaton) (was table work work' : List Record) (r : Result Certified BenchFault) → DecideTells a b 512 was table work work' r
+    → length work ≡ 512 → length was ≡ 1024 → ChartsTold a b was table r
+charts_told a b was table work work' (Ok c) h enough sized =
+    record { go_together = record { letters = h.0.letters; few_states = h.0.few_states }; certifies = h.2 }
+charts_told a b was table work work' (Err faults.Letters) h enough sized = (h.0, h.1.same_table)
+charts_told a b was table work work' (Err faults.States) h enough sized = ((h.0, h.1), h.2.same_table)
+charts_told a b was table work work' (Err faults.Room) h enough sized =
+    absurd (h.2 (record { some_records = omega arith; few_records = omega arith }, omega (arith, sized), enough))
+charts_told a b was table work work' (Err (faults.Search Full)) h enough sized = ((h.0.letters, h.0.few_states, h.2), h.3)
+charts_told a b was table work work' (Err e) h enough sized = absurd h

@@ -14,22 +14,34 @@ use Rattle.report.specs.Readings.{ReadsBoth, FirstRefused}
 use Rattle.report.specs.Shown.{refusal_text}
 use Rattle.report.specs.declared.refusals.Refusal.{Refusal}
 use Rattle.report.specs.declared.deciding.Report.{Report}
+use Rattle.search.specs.declared.records.Record.{Record}
 use Rattle.verdict.specs.Certified.{Certifies}
 use Rattle.verdict.specs.declared.certifying.Certified.{Certified}
 
--- a verdict on the charts that the files tell, in a room of 512 nodes, and the slip that shows it
-pub record CertifiesBoth (duty rule : List ℕ) (c : Certified) : Type 0 where
+-- the charts have the same letters, and the rule at most 6 states
+pub record GoTogether (a b : Automaton) : Type 0 where
+  pub letters : a.letters ≡ b.letters
+  pub few_states : b.states ≤ 6
+
+-- a verdict on two charts, in a room of 512 nodes, and the slip that shows it, written over a table
+pub record CertifiesCharts (a b : Automaton) (was table : List Record) (c : Certified) : Type 0 where
+  pub go_together : GoTogether a b
+  pub certifies : Certifies a b 512 was table c
+
+-- the same of the charts that the files tell
+pub record CertifiesBoth (duty rule : List ℕ) (was table : List Record) (c : Certified) : Type 0 where
   pub a : Automaton
   pub b : Automaton
   pub reads : ReadsBoth duty rule a b
   pub few_letters : a.letters ≤ 16
-  pub certifies : Certifies a b 512 c
+  pub charts : CertifiesCharts a b was table c
 
 -- the verdict alone
 pub record DecidesBoth (duty rule : List ℕ) (v : Verdict) : Type 0 where
   pub a : Automaton
   pub b : Automaton
   pub reads : ReadsBoth duty rule a b
+  pub go_together : GoTogether a b
   pub decides : Decides a b 512 v
 
 -- The charts differ in letters, or the rule has more than 6 states, or more than 512 nodes of their ranked graph can be reached.
@@ -38,6 +50,10 @@ BothRefused a b bench.Letters = MapRefused a b bench.Letters
 BothRefused a b bench.States = MapRefused a b bench.States
 BothRefused a b (bench.Search Full) = (a.letters ≡ b.letters) × (b.states ≤ 6) × More (ranked_graph a b) 512
 BothRefused a b _ = ⊥
+
+-- what is told of two charts, where a refusal leaves the table as it was
+abbrev pub ChartsTold : Automaton → Automaton → List Record → List Record → Result Certified BenchFault → Type 0
+ChartsTold a b was table r = MatchResult r (CertifiesCharts a b was table) (λ e. BothRefused a b e × (table ≡ was))
 
 abbrev pub Reports : List ℕ → List ℕ → Report → Type 0
 Reports duty rule r = MatchResult r.0 (DecidesBoth duty rule) (FirstRefused duty rule BothRefused)

@@ -1,7 +1,7 @@
 pub mod Readings
-pub mod Sheets
+pub mod ReadCharts
 pub mod Shown
 pub mod Listed
 pub mod Decided
 pub mod Spelled
-pub mod Courses
+pub mod Counterexamples

@@ -1,9 +1,12 @@
 // The verdict on two chart texts.
-ghost use Rattle.std.specs.Prelude.{Some, MatchResult};
+ghost use Rattle.std.specs.Prelude.{◌≡◌, Some, MatchResult};
 ghost use Rattle.report.specs.Readings.{FirstRefused};
-ghost use Rattle.report.specs.Decided.{BothRefused, CertifiesBoth, DecidesBoth, Reports, report_text};
+ghost use Rattle.report.specs.Decided.{BothRefused, CertifiesBoth, ChartsTold, DecidesBoth, Reports, report_text};
+ghost use Rattle.report.specs.ReadCharts.{chart_of};
 
+use crate::read_charts::ReadChart;
 use crate::refusals::{Refusal, Side};
+use fault::BenchFault;
 use std::fmt;
 use verdict::{Certified, Record, Verdict, decide};
 
@@ -28,18 +31,30 @@ pub const ROOM: usize = 512;
 // The records of a slip table for so many nodes.
 pub const SLIP: usize = 2 * ROOM;
 
-// The verdict on the charts of the two texts, with its slip in the table.
-pub(crate) fn certify_both<'a>(
+// The verdict on two charts, with its slip in the table.
+fn certify_charts(
+    duty: &ReadChart,
+    rule: &ReadChart,
+    table: &mut [Record; SLIP],
+    work: &mut [Record; ROOM],
+) -> Result<Certified, BenchFault>
+    ensures { ChartsTold (chart_of duty.now) (chart_of rule.now) table.old table.new result }
+{
+    decide(duty.table(), rule.table(), ROOM, table, work)
+}
+
+// The verdict on the charts of the two texts, with its slip in the table. A refusal leaves the table as it was.
+pub(crate) fn certify_both(
     duty: &[u8],
     rule: &[u8],
-    table: &'a mut [Record; SLIP],
-) -> Result<Certified<'a>, Refusal>
-    ensures { MatchResult result (CertifiesBoth duty.now rule.now) (FirstRefused duty.now rule.now BothRefused) }
+    table: &mut [Record; SLIP],
+) -> Result<Certified, Refusal>
+    ensures { MatchResult result (CertifiesBoth duty.now rule.now table.old table.new) (λ r. FirstRefused duty.now rule.now BothRefused r × (table.new ≡ table.old)) }
 {
     let duty = Side::Duty.read(duty)?;
     let rule = Side::Rule.read(rule)?;
     let mut work = [Record::default(); ROOM];
-    decide(duty.table(), rule.table(), ROOM, table, &mut work).map_err(|fault| Refusal {
+    certify_charts(&duty, &rule, table, &mut work).map_err(|fault| Refusal {
         side: Side::Bench,
         fault,
     })

@@ -1,8 +1,10 @@
 // Which of the two texts is refused, or the bench where neither is to blame.
-ghost use Rattle.std.specs.Prelude.{Some};
+ghost use Rattle.std.specs.Prelude.{Some, MatchResult};
+ghost use Rattle.report.specs.ReadCharts.{Holds};
+ghost use Rattle.report.specs.Readings.{OfFile};
 ghost use Rattle.report.specs.Shown.{side_text, refusal_text};
 
-use crate::sheets::Sheet;
+use crate::read_charts::ReadChart;
 use fault::{BenchFault, Fault};
 use std::fmt;
 
@@ -44,18 +46,21 @@ impl fmt::Display for Refusal {
     }
 }
 
+// Reads a text; the fault of its chart is told as one of the bench.
+fn read_chart(text: &[u8]) -> Result<ReadChart, BenchFault>
+    ensures { MatchResult result (Holds text.now) (OfFile text.now) }
+{
+    let chart = ReadChart::read(text)?;
+    Ok(chart)
+}
+
 impl Side {
-    ghost use Rattle.std.specs.Prelude.{◌≡◌, MatchResult};
-    ghost use Rattle.report.specs.Readings.{OfFile};
-    ghost use Rattle.report.specs.Sheets.{Holds};
+    ghost use Rattle.std.specs.Prelude.{◌≡◌};
 
     // Reads the text of this side.
-    pub(crate) fn read(self, text: &[u8]) -> Result<Sheet, Refusal>
+    pub(crate) fn read(self, text: &[u8]) -> Result<ReadChart, Refusal>
         ensures { MatchResult result (Holds text.now) (λ r. (r.side ≡ self) × OfFile text.now r.fault) }
     {
-        Sheet::read(text).map_err(|fault| Refusal {
-            side: self,
-            fault: fault.into(),
-        })
+        read_chart(text).map_err(|fault| Refusal { side: self, fault })
     }
 }

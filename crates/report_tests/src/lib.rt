@@ -5,9 +5,9 @@
 #[cfg(test)]
 mod benches;
 #[cfg(test)]
-mod counts;
+mod counterexamples;
 #[cfg(test)]
-mod courses;
+mod counts;
 #[cfg(test)]
 mod parts;
 #[cfg(test)]

@@ -5,7 +5,7 @@ use Rattle.graph.specs.Graphs.{Graph}
 use Rattle.graph.specs.Least.{Least}
 use Rattle.graph.specs.Walks.{Edge, Reach, go, Path, here, More}
 use Rattle.search.specs.declared.records.Record.{Record}
-use Rattle.search.specs.declared.spots.Spot.{Spot}
+use Rattle.search.specs.declared.searches.Progress.{Progress}
 use Rattle.search.specs.Searches.{Searching, Going, Fresh, Entered, Keeps, Stepped}
 use Rattle.search.specs.Tables.{node_at, letter_at, measure_at, low_at, up_at}
 use Rattle.search.specs.Trees.{Used, Upto, Held, Done, Tree, put}
@@ -66,14 +66,14 @@ module _ (g : Graph) (s top n v : ℕ) (node : ℕ → ℕ) (h : Held g s top n 
             (λ ne u. subst (λ x. Reach g x) (sym (put_other node s v i ne)) (h.reached i (was_used i ne u)));
       }
 
-abbrev pushed : Spot → ℕ → List Record → List Record
+abbrev pushed : Progress → ℕ → List Record → List Record
 pushed p v was = set was p.size (record { node = v; letter = 0; measure = p.cur * 65536 + p.size })
 
--- the spot after a push
-abbrev entered : Spot → Spot
+-- the progress after a push
+abbrev entered : Progress → Progress
 entered p = record { size = p.size + 1; top = p.top; cur = p.size; from = 0; found = p.found }
 
-module _ (g : Graph) (p : Spot) (v : ℕ) (was : List Record) (room : p.size < p.top) (table : p.top ≤ length was)
+module _ (g : Graph) (p : Progress) (v : ℕ) (was : List Record) (room : p.size < p.top) (table : p.top ≤ length was)
     (few : length was ≤ 65536) where
   inside : p.size < length was
   inside = omega arith
@@ -142,7 +142,7 @@ module _ (g : Graph) (p : Spot) (v : ℕ) (was : List Record) (room : p.size < p
         new_place i used e = ⊎_elim (λ (a : i < p.size). omega arith) (λ (b : p.top ≤ i). omega arith) used.1
 
 -- the current place leads to a new node
-pub step_crowded : (g : Graph) (p : Spot) (x v : ℕ) (was : List Record) → Searching g p.size p.top p.cur x was
+pub step_crowded : (g : Graph) (p : Progress) (x v : ℕ) (was : List Record) → Searching g p.size p.top p.cur x was
     → Fresh g p.size p.top p.cur x was v → p.size ≡ p.top → More g (length was)
 step_crowded g p x v was q fresh full =
     crowded g p.size p.top (length was) v (node_at was) q.held full
@@ -150,7 +150,7 @@ step_crowded g p x v was q fresh full =
     (letter_at was p.cur, fresh.left, fresh.least.1))
     fresh.new
 
-pub step_entered : (g : Graph) (p : Spot) (x v : ℕ) (was work : List Record) (after : Spot) → length was ≤ 65536
+pub step_entered : (g : Graph) (p : Progress) (x v : ℕ) (was work : List Record) (after : Progress) → length was ≤ 65536
     → Searching g p.size p.top p.cur x was → Done g p.top (length was) (node_at was) (measure_at was) p.found
     → Fresh g p.size p.top p.cur x was v → Entered p v was work after → Stepped g p was work after
 step_entered g p x v was work after few q done fresh (room, is, same) =

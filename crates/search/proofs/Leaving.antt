@@ -4,7 +4,7 @@ use Rattle.graph.specs.Graphs.{Graph, Bounded}
 use Rattle.graph.specs.Walks.{Path}
 use Rattle.graph.proofs.Paths.{path_join}
 use Rattle.search.specs.declared.records.Record.{Record}
-use Rattle.search.specs.declared.spots.Spot.{Spot}
+use Rattle.search.specs.declared.searches.Progress.{Progress}
 use Rattle.search.specs.Changes.{Changed}
 use Rattle.search.specs.Searches.{Searching, Explored, Stepped, GoesOn}
 use Rattle.search.specs.Tables.{node_at, letter_at, low_at, up_at}
@@ -71,7 +71,7 @@ module _ (g : Graph) (s top cur x u l from : ℕ) (was mid : List Record) (q : S
             ∙ subst (λ y. q.at y ≡ suc (node_at was cur)) (sym up_is) (q.tree.under cur (inl refl) (omega arith) q.tree.inside).1;
       }
 
-pub step_left : (g : Graph) (p p' q : Spot) (u l : ℕ) (was mid work : List Record) → Bounded g
+pub step_left : (g : Graph) (p p' q : Progress) (u l : ℕ) (was mid work : List Record) → Bounded g
     → (e : Explored g p.size p.top p.cur p.found was) → low_at was p.cur < p.cur → u ≡ up_at was p.cur → l ≡ low_at was p.cur
     → length mid ≡ length was → Changed u (letter_at was u) (min (low_at was u) l) was mid
     → p' ≡ p → length work ≡ length mid → GoesOn u (node_at was p.cur) p' mid work q

@@ -17,4 +17,4 @@ pub mod Stepping
 pub mod Visiting
 pub mod Queueing
 pub mod Tracing
-pub mod Lassos
+pub mod Joining

@@ -11,7 +11,7 @@ use Rattle.search.specs.declared.queues.Origin.{Origin}
 use Rattle.search.specs.declared.queues.Origin.TheVariants.{Node}
 use Rattle.search.specs.declared.queues.Stop.{Stop}
 use Rattle.search.specs.declared.queues.Stop.TheVariants.{Full, Found}
-use Rattle.search.specs.Trips.{Link, Queued, IsQueued, Leads, Added, NoRoom, Halted, Longer, Taken, Begun, Missed}
+use Rattle.search.specs.Queues.{Link, Queued, IsQueued, Leads, Added, NoRoom, Halted, Longer, Taken, Begun, Missed}
 use Rattle.search.specs.Weights.{ByLetters}
 use Rattle.search.proofs.Columns.{column_set}
 use Rattle.search.proofs.Entering.{crowded}
@@ -198,7 +198,7 @@ leads_letter g place v l by s work q lt is few letter measure w e = (
   inr (place, measure, lt, subst (λ x. g.edge x by.letter w ≡ true) (sym is) (subst (λ x. g.edge v x w ≡ true) (sym letter) e)),
 )
 
--- the nodes where ways begin are there
+-- the nodes where paths begin are there
 pub begun_starts : (g : Graph) (from : Origin) (to s : ℕ) (was : List Record) (t : ℕ) (work : List Record)
     → Taken g to (λ v. g.start v ≡ true) s was t work → Begun g from to t work
 begun_starts g from to s was t work taken =

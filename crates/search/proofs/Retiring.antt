@@ -4,12 +4,12 @@ use Rattle.std.proofs.lemmas.Bool.{cases_lt}
 use Rattle.std.specs.Result.{result_err, result_unwrap_or}
 use Rattle.graph.specs.Graphs.{Graph, Bounded}
 use Rattle.search.specs.declared.records.Record.{Record}
-use Rattle.search.specs.declared.spots.Spot.{Spot}
+use Rattle.search.specs.declared.searches.Progress.{Progress}
 use Rattle.search.specs.Changes.{Risen}
 use Rattle.search.specs.Searches.{Searching, Holds, Stepped, GoesOn}
 use Rattle.search.specs.Tables.{node_at, letter_at, measure_at, low_at, up_at}
 use Rattle.search.specs.Trees.{Used, Held, Done, DoneTold, Tree}
-use Rattle.search.specs.Weights.{Rooted, Assessed, Assessment, ComponentTold, Retired, IsRetiredSpot}
+use Rattle.search.specs.Weights.{Rooted, Assessed, Assessment, ComponentTold, Retired, HasRetired}
 use Rattle.search.proofs.Finished.{done_quiet, keeps_nodes}
 use Rattle.search.proofs.Leaving.{parent_of}
 use Rattle.search.proofs.Moves.{searching_resumed, resumed_quiet}
@@ -114,8 +114,8 @@ retired_worth g s top cur found was work (Ok m) = retired g s top cur found was 
 retired_worth g s top cur found was work (Err v) = retired g s top cur found was work 0 (Some v)
 
 -- the component was the whole stack
-pub step_emptied : (g : Graph) (p q : Spot) (was work : List Record) → p.cur ≡ 0 → 0 < p.size → p.size ≤ p.top
-    → IsRetiredSpot p q → Retired g p.size p.top p.cur was work q.found → Stepped g p was work q
+pub step_emptied : (g : Graph) (p q : Progress) (was work : List Record) → p.cur ≡ 0 → 0 < p.size → p.size ≤ p.top
+    → HasRetired p q → Retired g p.size p.top p.cur was work q.found → Stepped g p was work q
 step_emptied g p q was work zero-cur some fits is t =
     let made : Stepped g p was work (record { size = p.cur; top = p.top - (p.size - p.cur); cur = p.cur; from = p.from; found = q.found }) =
     record {
@@ -126,8 +126,8 @@ step_emptied g p q was work zero-cur some fits is t =
     subst (λ y. Stepped g p was work y) (sym is) made
 
 -- its root's parent goes on
-pub step_retired : (g : Graph) (p p' q : Spot) (u : ℕ) (was mid work : List Record) → Bounded g → 0 < p.cur → p.cur < p.size → p.size ≤ p.top
-    → u ≡ up_at was p.cur → IsRetiredSpot p p' → Retired g p.size p.top p.cur was mid p'.found
+pub step_retired : (g : Graph) (p p' q : Progress) (u : ℕ) (was mid work : List Record) → Bounded g → 0 < p.cur → p.cur < p.size → p.size ≤ p.top
+    → u ≡ up_at was p.cur → HasRetired p p' → Retired g p.size p.top p.cur was mid p'.found
     → length work ≡ length mid → GoesOn u (node_at was p.cur) p' mid work q → Stepped g p was work q
 step_retired g p p' q u was mid work b pos inside fits up_is retired t len (is, resumed) =
     let top = p.top - (p.size - p.cur) in

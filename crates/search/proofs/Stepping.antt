@@ -5,7 +5,7 @@ use Rattle.fault.specs.declared.SearchFault.TheVariants.{Table, Full}
 use Rattle.graph.specs.Graphs.{Graph}
 use Rattle.graph.specs.Walks.{More}
 use Rattle.search.specs.declared.records.Record.{Record}
-use Rattle.search.specs.declared.spots.Spot.{Spot}
+use Rattle.search.specs.declared.searches.Progress.{Progress}
 use Rattle.search.specs.Changes.{Quiet}
 use Rattle.search.specs.Searches.{Searching, Explored, Going, Stepped, Fresh, Entered, Crowded, TooMany, IsFurther}
 use Rattle.search.specs.Tables.{node_at, letter_at, measure_at}
@@ -13,7 +13,7 @@ use Rattle.search.specs.Trees.{Done}
 use Rattle.search.proofs.Entering.{step_entered, step_crowded}
 use Rattle.search.proofs.Finished.{done_quiet, keeps_nodes}
 
-module _ (g : Graph) (p p' : Spot) (was mid : List Record) (going : Going g p was) (some : 0 < p.size)
+module _ (g : Graph) (p p' : Progress) (was mid : List Record) (going : Going g p was) (some : 0 < p.size)
     (further : IsFurther p p') (len : length mid ≡ length was) (quiet : Quiet p.cur was mid) where
   done_scanned : Done g p.top (length mid) (node_at mid) (measure_at mid) p.found
   done_scanned =
@@ -26,17 +26,17 @@ module _ (g : Graph) (p p' : Spot) (was mid : List Record) (going : Going g p wa
       subst (λ y. Explored g y.size y.top y.cur y.found mid) (sym further)
       (record { from = x; going = q; done = done_scanned; explored = explored })
 
-  after_scan : (work : List Record) (q : Spot) → Stepped g p mid work q → Stepped g p was work q
+  after_scan : (work : List Record) (q : Progress) → Stepped g p mid work q → Stepped g p was work q
   after_scan work q s =
       record { going = s.going; keeps = λ v h. s.keeps v (keeps_nodes p.size p.top was mid len quiet.nodes v h); less = s.less }
 
-  pub step_finished : (work : List Record) (q : Spot) → Stepped g p' mid work q → Stepped g p was work q
+  pub step_finished : (work : List Record) (q : Progress) → Stepped g p' mid work q → Stepped g p was work q
   step_finished work q s =
       let t = subst (λ y. Stepped g y mid work q) further s in
       after_scan work q (record { going = t.going; keeps = t.keeps; less = t.less })
 
   module _ (x v : ℕ) (few : length was ≤ 65536) (here : Searching g p.size p.top p.cur x mid) (fresh : Fresh g p.size p.top p.cur x mid v) where
-    pub step_new : (work : List Record) (q : Spot) (r : Result (Unit {0}) SearchFault)
+    pub step_new : (work : List Record) (q : Progress) (r : Result (Unit {0}) SearchFault)
         → MatchResult r (λ _. Entered p' v mid work q) (Crowded p') → MatchResult r (λ _. Stepped g p was work q) (TooMany g (length was))
     step_new work q (Ok _) entered =
         after_scan work q

@@ -1,4 +1,4 @@
--- The way to a node is written backwards, and then turned round.
+-- The path to a node is written backwards, and then turned round.
 use Rattle.std.proofs.Common.{◌≡◌, ℕ, zero, suc, ◌+◌, ◌-◌, ◌<◌, ◌≤◌, true, List, length, get_or, set, take, drop, ◌++◌, reverse, sym, refl, ap, ◌∙◌, subst, ⊎_elim, arith}
 use Rattle.std.proofs.lemmas.Bool.{cases_lt}
 use Rattle.std.proofs.lemmas.List.{get_or-set_same, get_or-set_other, drop-set-lt, drop-drop, get_or-reverse, length-reverse, get_or-take, length-take-le}
@@ -6,8 +6,8 @@ use Rattle.graph.specs.Graphs.{Graph}
 use Rattle.search.specs.declared.records.Record.{Record}
 use Rattle.search.specs.Tables.{blank, node_at, letter_at, measure_at}
 use Rattle.search.specs.declared.queues.Origin.{Origin}
-use Rattle.search.specs.Trips.{Link, IsQueued, Leaves}
-use Rattle.search.specs.Ways.{behind, Traced, Way, WayWritten}
+use Rattle.search.specs.Queues.{Link, IsQueued, Leaves}
+use Rattle.search.specs.Paths.{behind, Traced, StartPath, PathWritten}
 use Rattle.graph.specs.Walks.{Reach}
 use Rattle.search.proofs.Queueing.{link_more, link_as}
 
@@ -128,8 +128,8 @@ module _ (g : Graph) (to count : ℕ) (was table : List Record) (inside : count 
   pub turned_measures : (i : ℕ) → i < count → measure_at turned i ≡ 0
   turned_measures i h = ap (λ x. x.measure) (turned_at i (count - suc i) (omega arith)) ∙ t.measures (count - suc i) (omega arith)
 
-  pub turned_way : Way g to count (node_at turned) (letter_at turned)
-  turned_way =
+  pub turned_path : StartPath g to count (node_at turned) (letter_at turned)
+  turned_path =
       record {
         starts = (
           λ some. let e : suc (count - 1) ≡ count = omega arith in
@@ -149,24 +149,24 @@ module _ (g : Graph) (to count : ℕ) (was table : List Record) (inside : count 
             (t.steps 0 (omega arith));
       }
 
--- a way with an edge left has some edge written
+-- a path with an edge left has some edge written
 pub some_left : (m n : ℕ) → (0 < m → 0 < n) → n ≡ 0 → m ≡ 0
 some_left m n some none =
     ⊎_elim (λ (more : 0 < m). let less = some more in absurd (omega arith)) (λ (le : m ≤ 0). omega arith) (cases_lt 0 m)
 
--- and so a way is written
-pub way_written : (g : Graph) (from : Origin) (to n count : ℕ) (was mid table : List Record) → Traced g to count was mid
+-- and so a path is written
+pub path_written : (g : Graph) (from : Origin) (to n count : ℕ) (was mid table : List Record) → Traced g to count was mid
     → table ≡ reverse (take count mid) ++ drop count mid → Reach g to → Leaves from count → count ≤ n → n ≤ length was
     → length mid ≡ length was
-    → WayWritten g from to n was table count
-way_written g from to n count was mid table traced is reached leaves short room len =
+    → PathWritten g from to n was table count
+path_written g from to n count was mid table traced is reached leaves short room len =
     let inside : count ≤ length mid = omega arith in
     record {
       records = reverse (take count mid);
       count_is = length-reverse (take count mid) ∙ length-take-le count mid inside;
       short = short;
       changed = is ∙ ap (λ (ys : List Record). reverse (take count mid) ++ ys) traced.rest;
-      way = turned_way g to count was mid inside traced;
+      path = turned_path g to count was mid inside traced;
       measures = turned_measures g to count was mid inside traced;
       reached = reached;
       leaves = leaves;

@@ -7,7 +7,7 @@ use Rattle.graph.specs.Walks.{Edge, Reach, begin, go, Measure, More}
 use Rattle.graph.proofs.Counting.{not_more}
 use Rattle.graph.proofs.Paths.{no_measure}
 use Rattle.search.specs.declared.records.Record.{Record}
-use Rattle.search.specs.declared.spots.Spot.{Spot}
+use Rattle.search.specs.declared.searches.Progress.{Progress}
 use Rattle.search.specs.Changes.{Settled}
 use Rattle.graph.specs.Ascending.{Passed, Next}
 use Rattle.search.specs.Searches.{Going, Holds, Entered, Crowded, TooMany, Visited, Swept}
@@ -23,7 +23,7 @@ not_done s top v work empty none i (lt, used) is =
     ⊎_elim (λ (a : i < s). absurd (omega arith)) (λ (b : top ≤ i). none (i, b, lt, is)) used
 
 -- the start is pushed onto the empty stack
-pub begin_start : (g : Graph) (p : Spot) (v : ℕ) (was work : List Record) (q : Spot) → length was ≤ 65536
+pub begin_start : (g : Graph) (p : Progress) (v : ℕ) (was work : List Record) (q : Progress) → length was ≤ 65536
     → Going g p was → p.size ≡ 0 → g.start v ≡ true
     → ((i : ℕ) → Used p.size p.top (length was) i → node_at was i ≡ v → ⊥) → Entered p v was work q
     → Going g q work
@@ -38,7 +38,7 @@ begin_start g p v was work q few going empty start new (room, is, same) =
     (going_pushed g p v was room going.held.table few going.held going.done (begin start) new (λ u. 0) refl t))
 
 -- or there is no room for it
-pub begin_crowded : (g : Graph) (p : Spot) (v : ℕ) (was : List Record) (fault : SearchFault) → Going g p was → g.start v ≡ true
+pub begin_crowded : (g : Graph) (p : Progress) (v : ℕ) (was : List Record) (fault : SearchFault) → Going g p was → g.start v ≡ true
     → ((i : ℕ) → Used p.size p.top (length was) i → node_at was i ≡ v → ⊥) → Crowded p fault → TooMany g (length was) fault
 begin_crowded g p v was Full going start new full = crowded g p.size p.top (length was) v (node_at was) going.held full (begin start) new
 begin_crowded g p v was Table going start new never = never
@@ -52,7 +52,7 @@ done_holds : (s top v : ℕ) (work : List Record) → At (node_at work) top (len
 done_holds s top v work (i, lo, hi, is) = (i, (hi, inr lo), is)
 
 -- the starts that are passed are done
-pub starts_more : (g : Graph) (p q : Spot) (from after : Option ℕ) (start : ℕ) (was work : List Record) → Next g.start from (Some start) after
+pub starts_more : (g : Graph) (p q : Progress) (from after : Option ℕ) (start : ℕ) (was work : List Record) → Next g.start from (Some start) after
     → Visited g p start was work q
     → ((v : ℕ) → Passed from v → g.start v ≡ true → At (node_at was) p.top (length was) v)
     → (v : ℕ) → Passed after v → g.start v ≡ true → At (node_at work) q.top (length work) v
@@ -62,13 +62,13 @@ starts_more g p q from after start was work (is_start, up_to, more, last) visit 
     (λ (e : v ≡ start). subst (λ y. Holds q.size q.top work y) (sym e) visit.holds) (up_to v is passed))
 
 -- what can be reached is done
-all_done : (g : Graph) (q : Spot) (work : List Record) → Swept g work q → (v : ℕ) → Reach g v → At (node_at work) q.top (length work) v
+all_done : (g : Graph) (q : Progress) (work : List Record) → Swept g work q → (v : ℕ) → Reach g v → At (node_at work) q.top (length work) v
 all_done g q work swept v (begin s) = swept.starts v s
 all_done g q work swept w (go {v} r e) =
     let (j, lo, hi, is) = all_done g q work swept v r in
     swept.going.done.closed j w lo hi (subst (λ y. Edge g y w) (sym is) e)
 
-module _ (g : Graph) (q : Spot) (mid work : List Record) (len : length work ≡ length mid) (swept : Swept g mid q)
+module _ (g : Graph) (q : Progress) (mid work : List Record) (len : length work ≡ length mid) (swept : Swept g mid q)
     (settled : Settled q.top mid work) where
   node_is : (i : ℕ) → i < length mid - q.top → node_at work i ≡ node_at mid (q.top + i)
   node_is i h = ap (λ r. r.node) (settled i h)

@@ -4,6 +4,6 @@ pub mod Trees
 pub mod Changes
 pub mod Searches
 pub mod Weights
-pub mod Trips
-pub mod Ways
-pub mod Courses
+pub mod Queues
+pub mod Paths
+pub mod Lassos

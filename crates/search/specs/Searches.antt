@@ -7,7 +7,7 @@ use Rattle.graph.specs.Least.{Least}
 use Rattle.graph.specs.Walks.{More}
 use Rattle.search.specs.declared.records.Record.{Record}
 use Rattle.search.specs.Changes.{Changed, Quiet}
-use Rattle.search.specs.declared.spots.Spot.{Spot}
+use Rattle.search.specs.declared.searches.Progress.{Progress}
 use Rattle.search.specs.Tables.{node_at, letter_at, measure_at, low_at, up_at}
 use Rattle.search.specs.Trees.{At, Used, Held, Done, Tree}
 
@@ -25,15 +25,15 @@ pub record Explored (g : Graph) (s top cur : ℕ) (found : Option ℕ) (work : L
   pub done : Done g top (length work) (node_at work) (measure_at work) found
   pub explored : g.letters ≤ letter_at work cur
 
--- the same two, of a spot
-abbrev pub IsSearching : Graph → Spot → List Record → Type 0
+-- the same two, of the progress of a search
+abbrev pub IsSearching : Graph → Progress → List Record → Type 0
 IsSearching g p work = Searching g p.size p.top p.cur p.from work
 
-abbrev pub IsExplored : Graph → Spot → List Record → Type 0
+abbrev pub IsExplored : Graph → Progress → List Record → Type 0
 IsExplored g p work = Explored g p.size p.top p.cur p.found work
 
 -- a search between two of its steps; the stack may be empty
-pub record Going (g : Graph) (p : Spot) (work : List Record) : Type 0 where
+pub record Going (g : Graph) (p : Progress) (work : List Record) : Type 0 where
   pub held : Held g p.size p.top (length work) (node_at work)
   pub done : Done g p.top (length work) (node_at work) (measure_at work) p.found
   pub busy : 0 < p.size → Searching g p.size p.top p.cur p.from work
@@ -48,40 +48,40 @@ abbrev pub Keeps : ℕ → ℕ → List Record → ℕ → ℕ → List Record �
 Keeps s top was s' top' work = (v : ℕ) → Holds s top was v → Holds s' top' work v
 
 -- what falls with each step: a new node takes a record for good, and then places are left and components are done
-abbrev pub ahead : Spot → ℕ
+abbrev pub ahead : Progress → ℕ
 ahead p = 200000 * (p.top - p.size) + p.cur + p.size
 
-pub record Stepped (g : Graph) (p : Spot) (was : List Record) (work : List Record) (q : Spot) : Type 0 where
+pub record Stepped (g : Graph) (p : Progress) (was : List Record) (work : List Record) (q : Progress) : Type 0 where
   pub going : Going g q work
   pub keeps : Keeps p.size p.top was q.size q.top work
   pub less : ahead q < ahead p
 
 -- the stack is empty: all is done
-pub record Rested (g : Graph) (p : Spot) (was : List Record) (work : List Record) (q : Spot) : Type 0 where
+pub record Rested (g : Graph) (p : Progress) (was : List Record) (work : List Record) (q : Progress) : Type 0 where
   pub going : Going g q work
   pub keeps : Keeps p.size p.top was q.size q.top work
   pub empty : q.size ≡ 0
 
 -- and the start is done
-pub record Visited (g : Graph) (p : Spot) (start : ℕ) (was work : List Record) (q : Spot) : Type 0 where
+pub record Visited (g : Graph) (p : Progress) (start : ℕ) (was work : List Record) (q : Progress) : Type 0 where
   pub rested : Rested g p was work q
   pub holds : Holds q.size q.top work start
 
 -- all is done that can be reached
-pub record Swept (g : Graph) (work : List Record) (q : Spot) : Type 0 where
+pub record Swept (g : Graph) (work : List Record) (q : Progress) : Type 0 where
   pub going : Going g q work
   pub empty : q.size ≡ 0
   pub starts : (v : ℕ) → g.start v ≡ true → At (node_at work) q.top (length work) v
 
 -- a new node is pushed
-abbrev pub Entered : Spot → ℕ → List Record → List Record → Spot → Type 0
+abbrev pub Entered : Progress → ℕ → List Record → List Record → Progress → Type 0
 Entered p next was work q =
     (p.size < p.top)
     × (q ≡ record { size = p.size + 1; top = p.top; cur = p.size; from = 0; found = p.found })
     × (work ≡ set was p.size (record { node = next; letter = 0; measure = p.cur * 65536 + p.size }))
 
 -- there is no room for one
-abbrev pub Crowded : Spot → SearchFault → Type 0
+abbrev pub Crowded : Progress → SearchFault → Type 0
 Crowded p Table = ⊥
 Crowded p Full = p.size ≡ p.top
 
@@ -97,13 +97,13 @@ Resumed cur node was work r =
     ⊎ ((r ≡ 0) × (2 ^ 64 ≤ node + 1) × Changed cur (letter_at was cur + 1) (low_at was cur) was work)
 
 -- the search goes on at a place, behind a node
-abbrev pub GoesOn : ℕ → ℕ → Spot → List Record → List Record → Spot → Type 0
+abbrev pub GoesOn : ℕ → ℕ → Progress → List Record → List Record → Progress → Type 0
 GoesOn place node p was work q =
     (q ≡ record { size = p.size; top = p.top; cur = place; from = q.from; found = p.found })
     × Resumed place node was work q.from
 
 -- at most the node at which it goes on is not as it was
-abbrev pub IsFurther : Spot → Spot → Type 0
+abbrev pub IsFurther : Progress → Progress → Type 0
 IsFurther p q = q ≡ record { size = p.size; top = p.top; cur = p.cur; from = q.from; found = p.found }
 
 -- what is left to look at where a place is at its letter and at node x

@@ -3,7 +3,7 @@ use Rattle.std.specs.Prelude.{◌≡◌, ℕ, suc, ◌+◌, ◌-◌, ◌<◌, �
 use Rattle.graph.specs.Graphs.{Graph}
 use Rattle.graph.specs.Walks.{Recurring, Measure}
 use Rattle.search.specs.declared.records.Record.{Record}
-use Rattle.search.specs.declared.spots.Spot.{Spot}
+use Rattle.search.specs.declared.searches.Progress.{Progress}
 use Rattle.graph.specs.Ascending.{Passed}
 use Rattle.search.specs.Searches.{Explored, Searching, Keeps}
 use Rattle.search.specs.Tables.{node_at, letter_at, measure_at, low_at, up_at}
@@ -41,7 +41,7 @@ pub record Rooted (g : Graph) (s top cur : ℕ) (found : Option ℕ) (work : Lis
   pub here : Explored g s top cur found work
   pub root : low_at work cur ≡ cur
 
-abbrev pub IsRooted : Graph → Spot → List Record → Type 0
+abbrev pub IsRooted : Graph → Progress → List Record → Type 0
 IsRooted g p work = Rooted g p.size p.top p.cur p.found work
 
 -- a node is named only if it lies on a marked cycle; if none is, none was before, and the measure is that of each place
@@ -69,5 +69,5 @@ pub record Retired (g : Graph) (s top cur : ℕ) (was work : List Record) (found
   pub keeps : Keeps s top was cur (top - (s - cur)) work
 
 -- how far the search has come then
-abbrev pub IsRetiredSpot : Spot → Spot → Type 0
-IsRetiredSpot p q = q ≡ record { size = p.cur; top = p.top - (p.size - p.cur); cur = p.cur; from = p.from; found = q.found }
+abbrev pub HasRetired : Progress → Progress → Type 0
+HasRetired p q = q ≡ record { size = p.cur; top = p.top - (p.size - p.cur); cur = p.cur; from = p.from; found = q.found }

@@ -5,53 +5,53 @@ ghost use Rattle.search.specs.Changes.{SameTable};
 ghost use Rattle.graph.specs.Implicit.{graph_of};
 ghost use Rattle.search.specs.Searches.{IsExplored, Going, Stepped, Rested, Entered, Crowded, TooMany, GoesOn};
 ghost use Rattle.search.specs.Tables.{letter_at, low_at, up_at};
-ghost use Rattle.search.specs.Weights.{IsRooted, Retired, IsRetiredSpot};
+ghost use Rattle.search.specs.Weights.{IsRooted, Retired, HasRetired};
 
 use crate::records::Record;
-use crate::spots::{Search, Spot};
+use crate::searches::{Progress, Search};
 use fault::SearchFault;
 use graph::{ImplicitGraph, Map};
 
 impl<'w> Search<'w> {
     // Pushes a new node, if there is room.
     pub(crate) fn enter(&mut self, next: u64) -> Result<(), SearchFault>
-        requires { self.old.spot.cur < 65536 }
+        requires { self.old.progress.cur < 65536 }
         ensures same_table { SameTable self.old.work self.new.work }
-        ensures entered { MatchResult result (λ _. Entered self.old.spot next self.old.work.now self.new.work.now self.new.spot) (Crowded self.old.spot) }
+        ensures entered { MatchResult result (λ _. Entered self.old.progress next self.old.work.now self.new.work.now self.new.progress) (Crowded self.old.progress) }
     {
-        let Spot { size, top, cur, .. } = self.spot;
+        let Progress { size, top, cur, .. } = self.progress;
         if size == top {
             return Err(SearchFault::Full);
         }
         self.work[size] = Record::entered(next, cur, size);
-        self.spot = Spot {
+        self.progress = Progress {
             size: size + 1,
             cur: size,
             from: 0,
-            ..self.spot
+            ..self.progress
         };
         Ok(())
     }
 
     // Goes on at a place, behind a node.
     fn go_on(&mut self, place: usize, node: u64)
-        requires { (place < self.old.spot.size) × (letter_at self.old.work.now place < 255) }
+        requires { (place < self.old.progress.size) × (letter_at self.old.work.now place < 255) }
         ensures same_table { SameTable self.old.work self.new.work }
-        ensures goes_on { GoesOn place node self.old.spot self.old.work.now self.new.work.now self.new.spot }
+        ensures goes_on { GoesOn place node self.old.progress self.old.work.now self.new.work.now self.new.progress }
     {
-        self.spot.from = self.resume(place, node);
-        self.spot.cur = place;
+        self.progress.from = self.resume(place, node);
+        self.progress.cur = place;
     }
 
     // Leaves the current place for its parent, which gets its low link and goes on behind its node.
     fn leave(&mut self)
-        requires inside { self.old.spot.cur < length self.old.work.now }
-        requires parent { up_at self.old.work.now self.old.spot.cur < self.old.spot.size }
-        requires letter { letter_at self.old.work.now (up_at self.old.work.now self.old.spot.cur) < 255 }
+        requires inside { self.old.progress.cur < length self.old.work.now }
+        requires parent { up_at self.old.work.now self.old.progress.cur < self.old.progress.size }
+        requires letter { letter_at self.old.work.now (up_at self.old.work.now self.old.progress.cur) < 255 }
         ensures same_table { SameTable self.old.work self.new.work }
-        ensures stepped { (g : Graph) → Bounded g → IsExplored g self.old.spot self.old.work.now → low_at self.old.work.now self.old.spot.cur < self.old.spot.cur → Stepped g self.old.spot self.old.work.now self.new.work.now self.new.spot }
+        ensures stepped { (g : Graph) → Bounded g → IsExplored g self.old.progress self.old.work.now → low_at self.old.work.now self.old.progress.cur < self.old.progress.cur → Stepped g self.old.progress self.old.work.now self.new.work.now self.new.progress }
     {
-        let explored = self.work[self.spot.cur];
+        let explored = self.work[self.progress.cur];
         let up = explored.parent();
         self.lower(up, explored.low_link());
         self.go_on(up, explored.node);
@@ -59,39 +59,39 @@ impl<'w> Search<'w> {
 
     // Assesses the component of the current place, and moves it to what is done.
     fn retire<M: Map>(&mut self, graph: &ImplicitGraph<'_, M>)
-        requires { IsRooted (graph_of M.Map.graph graph.now) self.old.spot self.old.work.now }
+        requires { IsRooted (graph_of M.Map.graph graph.now) self.old.progress self.old.work.now }
         ensures same_table { SameTable self.old.work self.new.work }
-        ensures spot { IsRetiredSpot self.old.spot self.new.spot }
-        ensures retired { Retired (graph_of M.Map.graph graph.now) self.old.spot.size self.old.spot.top self.old.spot.cur self.old.work.now self.new.work.now self.new.spot.found }
+        ensures progress { HasRetired self.old.progress self.new.progress }
+        ensures retired { Retired (graph_of M.Map.graph graph.now) self.old.progress.size self.old.progress.top self.old.progress.cur self.old.work.now self.new.work.now self.new.progress.found }
     {
-        let Spot { size, top, cur, .. } = self.spot;
+        let Progress { size, top, cur, .. } = self.progress;
         let worth = self.assess(graph);
         self.move_up(worth.unwrap_or(0));
-        self.spot.size = cur;
-        self.spot.top = top - (size - cur);
-        self.spot.found = worth.err();
+        self.progress.size = cur;
+        self.progress.top = top - (size - cur);
+        self.progress.found = worth.err();
     }
 
     // Retires the component of the current place; the parent goes on, if there is one.
     fn close<M: Map>(&mut self, graph: &ImplicitGraph<'_, M>)
-        requires { IsRooted (graph_of M.Map.graph graph.now) self.old.spot self.old.work.now }
+        requires { IsRooted (graph_of M.Map.graph graph.now) self.old.progress self.old.work.now }
         ensures same_table { SameTable self.old.work self.new.work }
-        ensures stepped { Stepped (graph_of M.Map.graph graph.now) self.old.spot self.old.work.now self.new.work.now self.new.spot }
+        ensures stepped { Stepped (graph_of M.Map.graph graph.now) self.old.progress self.old.work.now self.new.work.now self.new.progress }
     {
-        let root = self.work[self.spot.cur];
+        let root = self.work[self.progress.cur];
         self.retire(graph);
-        if self.spot.cur > 0 {
+        if self.progress.cur > 0 {
             self.go_on(root.parent(), root.node);
         }
     }
 
     // Goes on from an explored place.
     fn finish<M: Map>(&mut self, graph: &ImplicitGraph<'_, M>)
-        requires { IsExplored (graph_of M.Map.graph graph.now) self.old.spot self.old.work.now }
+        requires { IsExplored (graph_of M.Map.graph graph.now) self.old.progress self.old.work.now }
         ensures same_table { SameTable self.old.work self.new.work }
-        ensures stepped { Stepped (graph_of M.Map.graph graph.now) self.old.spot self.old.work.now self.new.work.now self.new.spot }
+        ensures stepped { Stepped (graph_of M.Map.graph graph.now) self.old.progress self.old.work.now self.new.work.now self.new.progress }
     {
-        let cur = self.spot.cur;
+        let cur = self.progress.cur;
         if self.work[cur].low_link() < cur {
             self.leave();
         } else {
@@ -101,10 +101,10 @@ impl<'w> Search<'w> {
 
     // One step, refused by 13 where a new node finds no room.
     fn step<M: Map>(&mut self, graph: &ImplicitGraph<'_, M>) -> Result<(), SearchFault>
-        requires going { Going (graph_of M.Map.graph graph.now) self.old.spot self.old.work.now }
-        requires some { 0 < self.old.spot.size }
+        requires going { Going (graph_of M.Map.graph graph.now) self.old.progress self.old.work.now }
+        requires some { 0 < self.old.progress.size }
         ensures same_table { SameTable self.old.work self.new.work }
-        ensures stepped { MatchResult result (λ _. Stepped (graph_of M.Map.graph graph.now) self.old.spot self.old.work.now self.new.work.now self.new.spot) (TooMany (graph_of M.Map.graph graph.now) (length self.old.work.now)) }
+        ensures stepped { MatchResult result (λ _. Stepped (graph_of M.Map.graph graph.now) self.old.progress self.old.work.now self.new.work.now self.new.progress) (TooMany (graph_of M.Map.graph graph.now) (length self.old.work.now)) }
     {
         match self.scan(graph) {
             Some(next) => self.enter(next),
@@ -122,11 +122,11 @@ impl<'w> Search<'w> {
         &mut self,
         graph: &ImplicitGraph<'_, M>,
     ) -> Result<(), SearchFault>
-        requires { Going (graph_of M.Map.graph graph.now) self.old.spot self.old.work.now }
+        requires { Going (graph_of M.Map.graph graph.now) self.old.progress self.old.work.now }
         ensures same_table { SameTable self.old.work self.new.work }
-        ensures rested { MatchResult result (λ _. Rested (graph_of M.Map.graph graph.now) self.old.spot self.old.work.now self.new.work.now self.new.spot) (TooMany (graph_of M.Map.graph graph.now) (length self.old.work.now)) }
+        ensures rested { MatchResult result (λ _. Rested (graph_of M.Map.graph graph.now) self.old.progress self.old.work.now self.new.work.now self.new.progress) (TooMany (graph_of M.Map.graph graph.now) (length self.old.work.now)) }
     {
-        while self.spot.size > 0 {
+        while self.progress.size > 0 {
             self.step(graph)?;
         }
         Ok(())

@@ -3,16 +3,16 @@
 // node is looked for breadth first, and written into a second table.
 #![tactic(auto)]
 
-mod courses;
 mod explores;
+mod lassos;
 mod queues;
 mod records;
 mod scans;
-mod spots;
+mod searches;
 mod surveys;
 mod tables;
 mod weights;
 
-pub use courses::{Extent, write_lasso};
+pub use lassos::{Extent, write_lasso};
 pub use records::Record;
 pub use surveys::{Findings, check_table, survey};

@@ -1,29 +1,53 @@
-// The search for a way to a node, breadth first: the nodes that were met stand in a queue, in the order in which they were met.
+// The search for a path to a node, breadth first: the nodes that were met stand in a queue, in the order in which they were met.
 ghost use Rattle.std.specs.Prelude.{◌≡◌, ◌≤◌, ◌<◌, true, length, MatchOption, MatchResult};
 ghost use Rattle.graph.specs.Walks.{Edge};
 ghost use Rattle.search.specs.Changes.{SameTable};
 ghost use Rattle.graph.specs.Implicit.{graph_of, among};
 ghost use Rattle.search.specs.Tables.{node_at};
 ghost use Rattle.search.specs.Trees.{At};
-ghost use Rattle.search.specs.Trips.{graph_for, Leads, IsQueued, Taken, Added, NoRoom, Leaves, Halted, Begun, Missed};
+ghost use Rattle.search.specs.Queues.{graph_for, Leads, IsQueued, Took, Added, NoRoom, Leaves, HaltedFor, Begun, Missed};
 
 use crate::records::Record;
 use crate::tables::find;
 use graph::{ImplicitGraph, Map, Nodes};
 
-// Where a way begins: at any start, or at one node.
+// Where a path begins: at any start, or at one node.
 #[derive(Clone, Copy)]
 pub(crate) enum Origin {
     Starts,
     Node(u64),
 }
 
-// A way that is looked for: from its origin to a node. From one node it has an edge at least.
+// A path that is looked for: from its origin to a node. From one node it has an edge at least.
 #[derive_where(Clone, Copy)]
-pub(crate) struct Trip<'a, M> {
+pub(crate) struct PathQuery<'a, M> {
     pub(crate) graph: ImplicitGraph<'a, M>,
     pub(crate) from: Origin,
     pub(crate) to: u64,
+}
+
+impl<'a, M> PathQuery<'a, M> {
+    // From any start to a node.
+    pub(crate) fn to_node(graph: &ImplicitGraph<'a, M>, node: u64) -> PathQuery<'a, M>
+        ensures { result ≡ record { graph = graph.now; from = Origin.Starts; to = node } }
+    {
+        PathQuery {
+            graph: *graph,
+            from: Origin::Starts,
+            to: node,
+        }
+    }
+
+    // From its node back to it.
+    pub(crate) fn back(&self) -> PathQuery<'a, M>
+        ensures { result ≡ record { graph = self.now.graph; from = Origin.Node self.now.to; to = self.now.to } }
+    {
+        PathQuery {
+            graph: self.graph,
+            from: Origin::Node(self.to),
+            to: self.to,
+        }
+    }
 }
 
 // Why a search ends before it has seen all that can be reached.
@@ -36,7 +60,7 @@ pub(crate) enum Stop {
 }
 
 // The nodes that were met, each once. A record has the letter of the edge on which its node was met, and its measure is one more
-// than the place of the node from which that edge leads, or 0 where ways begin.
+// than the place of the node from which that edge leads, or 0 where paths begin.
 #[derive(Drop)]
 pub(crate) struct Queue<'w> {
     pub(crate) work: &'w mut [Record],
@@ -78,17 +102,22 @@ impl<'w> Queue<'w> {
     }
 
     // Adds each of these nodes, with the letter and the measure of `by`, until one is the node that is looked for: that one is never
-    // added, but where ways begin at it.
-    fn add_all<M: Map>(&mut self, trip: &Trip<'_, M>, nodes: Nodes, by: Record) -> Result<(), Stop>
-        requires queued { IsQueued (graph_for M.Map.graph trip.now) self.old.size self.old.work.now }
-        requires leads { Leads (graph_for M.Map.graph trip.now) (among (graph_of M.Map.graph trip.now.graph) nodes) by self.old.size self.old.work.now }
-        requires leaves { Leaves trip.now.from by.measure }
+    // added, but where paths begin at it.
+    fn add_all<M: Map>(
+        &mut self,
+        query: &PathQuery<'_, M>,
+        nodes: Nodes,
+        by: Record,
+    ) -> Result<(), Stop>
+        requires queued { IsQueued (graph_for M.Map.graph query.now) self.old.size self.old.work.now }
+        requires leads { Leads (graph_for M.Map.graph query.now) (among (graph_of M.Map.graph query.now.graph) nodes) by self.old.size self.old.work.now }
+        requires leaves { Leaves query.now.from by.measure }
         ensures same_table { SameTable self.old.work self.new.work }
-        ensures added { MatchResult result (λ _. Taken (graph_for M.Map.graph trip.now) trip.now.to (λ v. among (graph_of M.Map.graph trip.now.graph) nodes v ≡ true) self.old.size self.old.work.now self.new.size self.new.work.now) (Halted (graph_for M.Map.graph trip.now) trip.now.from trip.now.to self.new.size self.new.work.now) }
+        ensures added { Took M.Map.graph query.now (λ v. among (graph_of M.Map.graph query.now.graph) nodes v ≡ true) self.old.size self.old.work.now self.new.size self.new.work.now result }
     {
-        for node in trip.graph.rising(nodes) {
+        for node in query.graph.rising(nodes) {
             let record = Record { node, ..by };
-            if node == trip.to {
+            if node == query.to {
                 return Err(Stop::Found(record));
             }
             self.add(record)?;
@@ -97,32 +126,32 @@ impl<'w> Queue<'w> {
     }
 
     // Adds the nodes that edges lead to from the node at a place.
-    fn expand<M: Map>(&mut self, trip: &Trip<'_, M>, place: usize) -> Result<(), Stop>
+    fn expand<M: Map>(&mut self, query: &PathQuery<'_, M>, place: usize) -> Result<(), Stop>
         requires inside { place < self.old.size }
-        requires queued { IsQueued (graph_for M.Map.graph trip.now) self.old.size self.old.work.now }
+        requires queued { IsQueued (graph_for M.Map.graph query.now) self.old.size self.old.work.now }
         ensures same_table { SameTable self.old.work self.new.work }
-        ensures added { MatchResult result (λ _. Taken (graph_for M.Map.graph trip.now) trip.now.to (Edge (graph_of M.Map.graph trip.now.graph) (node_at self.old.work.now place)) self.old.size self.old.work.now self.new.size self.new.work.now) (Halted (graph_for M.Map.graph trip.now) trip.now.from trip.now.to self.new.size self.new.work.now) }
+        ensures added { Took M.Map.graph query.now (Edge (graph_of M.Map.graph query.now.graph) (node_at self.old.work.now place)) self.old.size self.old.work.now self.new.size self.new.work.now result }
     {
         let node = self.work[place].node;
-        for letter in 0..trip.graph.letters() {
+        for letter in 0..query.graph.letters() {
             let by = Record {
                 node,
                 letter,
                 measure: place as u32 + 1,
             };
-            self.add_all(trip, Nodes::Successors(node, letter), by)?;
+            self.add_all(query, Nodes::Successors(node, letter), by)?;
         }
         Ok(())
     }
 
-    // Adds the nodes where ways begin.
-    fn begin<M: Map>(&mut self, trip: &Trip<'_, M>) -> Result<(), Stop>
+    // Adds the nodes where paths begin.
+    fn begin<M: Map>(&mut self, query: &PathQuery<'_, M>) -> Result<(), Stop>
         requires empty { self.old.size ≡ 0 }
         ensures same_table { SameTable self.old.work self.new.work }
-        ensures begun { MatchResult result (λ _. Begun (graph_for M.Map.graph trip.now) trip.now.from trip.now.to self.new.size self.new.work.now) (Halted (graph_for M.Map.graph trip.now) trip.now.from trip.now.to self.new.size self.new.work.now) }
+        ensures begun { MatchResult result (λ _. Begun (graph_for M.Map.graph query.now) query.now.from query.now.to self.new.size self.new.work.now) (HaltedFor M.Map.graph query.now self.new.size self.new.work.now) }
     {
-        match trip.from {
-            Origin::Starts => self.add_all(trip, Nodes::Starts, Record::default()),
+        match query.from {
+            Origin::Starts => self.add_all(query, Nodes::Starts, Record::default()),
             Origin::Node(node) => self.add(Record {
                 node,
                 ..Record::default()
@@ -131,15 +160,15 @@ impl<'w> Queue<'w> {
     }
 
     // Searches until the node that is looked for is met, or nothing is left to be met.
-    pub(crate) fn search<M: Map>(&mut self, trip: &Trip<'_, M>) -> Result<(), Stop>
+    pub(crate) fn search<M: Map>(&mut self, query: &PathQuery<'_, M>) -> Result<(), Stop>
         requires empty { self.old.size ≡ 0 }
         ensures same_table { SameTable self.old.work self.new.work }
-        ensures searched { MatchResult result (λ _. Missed (graph_for M.Map.graph trip.now) trip.now.from trip.now.to) (Halted (graph_for M.Map.graph trip.now) trip.now.from trip.now.to self.new.size self.new.work.now) }
+        ensures searched { MatchResult result (λ _. Missed (graph_for M.Map.graph query.now) query.now.from query.now.to) (HaltedFor M.Map.graph query.now self.new.size self.new.work.now) }
     {
-        self.begin(trip)?;
+        self.begin(query)?;
         let mut place = 0;
         while place < self.size {
-            self.expand(trip, place)?;
+            self.expand(query, place)?;
             place += 1;
         }
         Ok(())

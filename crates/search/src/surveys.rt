@@ -6,7 +6,7 @@ ghost use Rattle.search.specs.Searches.{Going, Visited, Swept, TooMany};
 ghost use Rattle.search.specs.Surveys.{Allowed, TableRefused, Surveyed, Refused};
 
 use crate::records::Record;
-use crate::spots::Search;
+use crate::searches::Search;
 use fault::SearchFault;
 use graph::{ImplicitGraph, Map, Nodes};
 use lasso::Word;
@@ -33,11 +33,11 @@ pub fn check_table(work: &[Record]) -> Result<(), SearchFault>
 impl<'w> Search<'w> {
     // Searches from a start, unless it is done.
     fn visit<M: Map>(&mut self, graph: &ImplicitGraph<'_, M>, start: u64) -> Result<(), SearchFault>
-        requires going { Going (graph_of M.Map.graph graph.now) self.old.spot self.old.work.now }
-        requires empty { self.old.spot.size ≡ 0 }
+        requires going { Going (graph_of M.Map.graph graph.now) self.old.progress self.old.work.now }
+        requires empty { self.old.progress.size ≡ 0 }
         requires start { (graph_of M.Map.graph graph.now).start start ≡ true }
         ensures same_table { SameTable self.old.work self.new.work }
-        ensures visited { MatchResult result (λ _. Visited (graph_of M.Map.graph graph.now) self.old.spot start self.old.work.now self.new.work.now self.new.spot) (TooMany (graph_of M.Map.graph graph.now) (length self.old.work.now)) }
+        ensures visited { MatchResult result (λ _. Visited (graph_of M.Map.graph graph.now) self.old.progress start self.old.work.now self.new.work.now self.new.progress) (TooMany (graph_of M.Map.graph graph.now) (length self.old.work.now)) }
     {
         if self.is_done(start) {
             return Ok(());
@@ -48,10 +48,10 @@ impl<'w> Search<'w> {
 
     // Searches from every start.
     fn sweep<M: Map>(&mut self, graph: &ImplicitGraph<'_, M>) -> Result<(), SearchFault>
-        requires going { Going (graph_of M.Map.graph graph.now) self.old.spot self.old.work.now }
-        requires empty { self.old.spot.size ≡ 0 }
+        requires going { Going (graph_of M.Map.graph graph.now) self.old.progress self.old.work.now }
+        requires empty { self.old.progress.size ≡ 0 }
         ensures same_table { SameTable self.old.work self.new.work }
-        ensures swept { MatchResult result (λ _. Swept (graph_of M.Map.graph graph.now) self.new.work.now self.new.spot) (TooMany (graph_of M.Map.graph graph.now) (length self.old.work.now)) }
+        ensures swept { MatchResult result (λ _. Swept (graph_of M.Map.graph graph.now) self.new.work.now self.new.progress) (TooMany (graph_of M.Map.graph graph.now) (length self.old.work.now)) }
     {
         for start in graph.rising(Nodes::Starts) {
             self.visit(graph, start)?;
@@ -62,15 +62,15 @@ impl<'w> Search<'w> {
     // Collects what is found in the first records, once nothing is left to search from.
     fn collect<M: Map>(&mut self, graph: &ImplicitGraph<'_, M>) -> Result<Findings, SearchFault>
         requires some { 1 ≤ length self.old.work.now }
-        requires going { Going (graph_of M.Map.graph graph.now) self.old.spot self.old.work.now }
-        requires empty { self.old.spot.size ≡ 0 }
+        requires going { Going (graph_of M.Map.graph graph.now) self.old.progress self.old.work.now }
+        requires empty { self.old.progress.size ≡ 0 }
         ensures same_table { SameTable self.old.work self.new.work }
         ensures collected { MatchResult result (Surveyed (graph_of M.Map.graph graph.now) self.new.work.now) (TooMany (graph_of M.Map.graph graph.now) (length self.old.work.now)) }
     {
         self.sweep(graph)?;
         Ok(Findings {
             count: self.settle(),
-            witness: self.spot.found,
+            witness: self.progress.found,
         })
     }
 }

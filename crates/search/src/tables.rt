@@ -5,7 +5,7 @@ ghost use Rattle.search.specs.Trees.{At};
 ghost use Rattle.search.specs.Changes.{SameTable, Changed, CopiedTo, Met, Risen, Settled};
 
 use crate::records::Record;
-use crate::spots::{Search, Spot};
+use crate::searches::{Progress, Search};
 
 // The place of a node among records, which are looked at one by one.
 #[inline(always)]
@@ -43,23 +43,23 @@ fn copy_to(records: &mut [Record], from: usize, end: usize, to: usize)
 impl<'w> Search<'w> {
     // The place of a node on the stack.
     fn place(&self, node: u64) -> Option<usize>
-        ensures { MatchOption result (At (node_at self.now.work.now) 0 self.now.spot.size node → ⊥) (λ i. (i < self.now.spot.size) × (node_at self.now.work.now i ≡ node)) }
+        ensures { MatchOption result (At (node_at self.now.work.now) 0 self.now.progress.size node → ⊥) (λ i. (i < self.now.progress.size) × (node_at self.now.work.now i ≡ node)) }
     {
-        find(&self.work[..self.spot.size], node)
+        find(&self.work[..self.progress.size], node)
     }
 
     // Is a node done?
     pub(crate) fn is_done(&self, node: u64) -> bool
-        ensures { Decides result (At (node_at self.now.work.now) self.now.spot.top (length self.now.work.now) node) }
+        ensures { Decides result (At (node_at self.now.work.now) self.now.progress.top (length self.now.work.now) node) }
     {
-        find(&self.work[self.spot.top..], node).is_some()
+        find(&self.work[self.progress.top..], node).is_some()
     }
 
     // Lowers the low link of place i to `low`, unless it is lower.
     pub(crate) fn lower(&mut self, i: usize, low: usize)
         requires { (i < length self.old.work.now) × (low < 65536) }
         ensures same_table { SameTable self.old.work self.new.work }
-        ensures spot { self.new.spot ≡ self.old.spot }
+        ensures progress { self.new.progress ≡ self.old.progress }
         ensures changed { Changed i (letter_at self.old.work.now i) (min (low_at self.old.work.now i) low) self.old.work.now self.new.work.now }
     {
         let old = self.work[i].low_link();
@@ -70,7 +70,7 @@ impl<'w> Search<'w> {
     pub(crate) fn turn(&mut self, i: usize)
         requires { (i < length self.old.work.now) × (letter_at self.old.work.now i < 255) }
         ensures same_table { SameTable self.old.work self.new.work }
-        ensures spot { self.new.spot ≡ self.old.spot }
+        ensures progress { self.new.progress ≡ self.old.progress }
         ensures changed { Changed i (letter_at self.old.work.now i + 1) (low_at self.old.work.now i) self.old.work.now self.new.work.now }
     {
         self.work[i].letter += 1;
@@ -79,13 +79,13 @@ impl<'w> Search<'w> {
     // The current place leads to a node: if the stack has it, the place's low link is not above it then. Tells whether the
     // table has it.
     pub(crate) fn meet(&mut self, node: u64) -> bool
-        requires { self.old.spot.cur < self.old.spot.size }
+        requires { self.old.progress.cur < self.old.progress.size }
         ensures same_table { SameTable self.old.work self.new.work }
-        ensures spot { self.new.spot ≡ self.old.spot }
-        ensures met { Met self.old.spot.size self.old.spot.top self.old.spot.cur node self.old.work.now self.new.work.now result }
+        ensures progress { self.new.progress ≡ self.old.progress }
+        ensures met { Met self.old.progress.size self.old.progress.top self.old.progress.cur node self.old.work.now self.new.work.now result }
     {
         if let Some(i) = self.place(node) {
-            self.lower(self.spot.cur, i);
+            self.lower(self.progress.cur, i);
             return true;
         }
         self.is_done(node)
@@ -94,10 +94,10 @@ impl<'w> Search<'w> {
     // Moves the places from `cur` on and below `size` up, so that they end at `top`, and gives each the measure.
     pub(crate) fn move_up(&mut self, measure: u32)
         ensures same_table { SameTable self.old.work self.new.work }
-        ensures spot { self.new.spot ≡ self.old.spot }
-        ensures risen { Risen self.old.spot.size self.old.spot.top self.old.spot.cur measure self.old.work.now self.new.work.now }
+        ensures progress { self.new.progress ≡ self.old.progress }
+        ensures risen { Risen self.old.progress.size self.old.progress.top self.old.progress.cur measure self.old.work.now self.new.work.now }
     {
-        let Spot { size, top, cur, .. } = self.spot;
+        let Progress { size, top, cur, .. } = self.progress;
         let done = top - (size - cur);
         copy_to(self.work, cur, size, done);
         for record in &mut self.work[done..top] {
@@ -109,11 +109,11 @@ impl<'w> Search<'w> {
     // Copies what is done to the front, and counts it.
     pub(crate) fn settle(&mut self) -> usize
         ensures same_table { SameTable self.old.work self.new.work }
-        ensures spot { self.new.spot ≡ self.old.spot }
-        ensures count { result ≡ length self.old.work.now - self.old.spot.top }
-        ensures settled { Settled self.old.spot.top self.old.work.now self.new.work.now }
+        ensures progress { self.new.progress ≡ self.old.progress }
+        ensures count { result ≡ length self.old.work.now - self.old.progress.top }
+        ensures settled { Settled self.old.progress.top self.old.work.now self.new.work.now }
     {
-        let top = self.spot.top;
+        let top = self.progress.top;
         self.work.copy_within(top.., 0);
         self.work.len() - top
     }

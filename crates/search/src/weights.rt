@@ -6,7 +6,7 @@ ghost use Rattle.search.specs.Tables.{node_at, measure_at};
 ghost use Rattle.search.specs.Trees.{Follows, Heavy};
 ghost use Rattle.search.specs.Weights.{Weight, Apart, Unmarked, MarkedIn, Rooted, IsRooted, Assessment};
 
-use crate::spots::{Search, Spot};
+use crate::searches::{Progress, Search};
 use crate::tables::find;
 use graph::{ImplicitGraph, Map, Nodes};
 
@@ -20,9 +20,9 @@ fn has_self<M: Map>(graph: &ImplicitGraph<'_, M>, node: u64) -> bool
 impl<'w> Search<'w> {
     // The measure of a done node, or 0 for a node that is not done.
     fn measure_of(&self, node: u64) -> u32
-        ensures { Weight self.now.spot.top node self.now.work.now result }
+        ensures { Weight self.now.progress.top node self.now.work.now result }
     {
-        let done = &self.work[self.spot.top..];
+        let done = &self.work[self.progress.top..];
         match find(done, node) {
             Some(i) => done[i].measure,
             None => 0,
@@ -32,8 +32,8 @@ impl<'w> Search<'w> {
     // The greatest measure of a done node that a node leads to by a letter. That done places hold different nodes is asked of
     // the three that weigh and is not said by the type, which each move of a record would have to show.
     fn weigh_letter<M: Map>(&self, graph: &ImplicitGraph<'_, M>, node: u64, letter: u8) -> u32
-        requires { Apart self.now.spot.top self.now.work.now }
-        ensures { Heavy (λ w. (graph_of M.Map.graph graph.now).edge node letter w ≡ true) self.now.spot.top (length self.now.work.now) (node_at self.now.work.now) (measure_at self.now.work.now) result }
+        requires { Apart self.now.progress.top self.now.work.now }
+        ensures { Heavy (λ w. (graph_of M.Map.graph graph.now).edge node letter w ≡ true) self.now.progress.top (length self.now.work.now) (node_at self.now.work.now) (measure_at self.now.work.now) result }
     {
         let mut best: u32 = 0;
         for next in graph.rising(Nodes::Successors(node, letter)) {
@@ -45,8 +45,8 @@ impl<'w> Search<'w> {
     // The greatest measure of a done node that a node leads to. As `map` with `max` this leaves its result open, and so it is a
     // loop, as are the two like it: the library's lemmas on chains want a function of the item, and a weight is told by `Heavy`.
     fn weigh_node<M: Map>(&self, graph: &ImplicitGraph<'_, M>, node: u64) -> u32
-        requires { Apart self.now.spot.top self.now.work.now }
-        ensures { Heavy (Edge (graph_of M.Map.graph graph.now) node) self.now.spot.top (length self.now.work.now) (node_at self.now.work.now) (measure_at self.now.work.now) result }
+        requires { Apart self.now.progress.top self.now.work.now }
+        ensures { Heavy (Edge (graph_of M.Map.graph graph.now) node) self.now.progress.top (length self.now.work.now) (node_at self.now.work.now) (measure_at self.now.work.now) result }
     {
         let mut best: u32 = 0;
         for letter in 0..graph.letters() {
@@ -57,11 +57,11 @@ impl<'w> Search<'w> {
 
     // The greatest measure of a done node that a place from `cur` on and below `size` leads to.
     fn weigh<M: Map>(&self, graph: &ImplicitGraph<'_, M>) -> u32
-        requires { Apart self.now.spot.top self.now.work.now }
-        ensures { Heavy (Follows (graph_of M.Map.graph graph.now) (node_at self.now.work.now) self.now.spot.cur self.now.spot.size) self.now.spot.top (length self.now.work.now) (node_at self.now.work.now) (measure_at self.now.work.now) result }
+        requires { Apart self.now.progress.top self.now.work.now }
+        ensures { Heavy (Follows (graph_of M.Map.graph graph.now) (node_at self.now.work.now) self.now.progress.cur self.now.progress.size) self.now.progress.top (length self.now.work.now) (node_at self.now.work.now) (measure_at self.now.work.now) result }
     {
         let mut best: u32 = 0;
-        for record in &self.work[self.spot.cur..self.spot.size] {
+        for record in &self.work[self.progress.cur..self.progress.size] {
             best = best.max(self.weigh_node(graph, record.node));
         }
         best
@@ -69,9 +69,9 @@ impl<'w> Search<'w> {
 
     // A marked node of the component.
     fn first_marked<M: Map>(&self, graph: &ImplicitGraph<'_, M>) -> Option<u64>
-        ensures { MatchOption result (Unmarked (graph_of M.Map.graph graph.now) self.now.spot.cur self.now.spot.size self.now.work.now) (MarkedIn (graph_of M.Map.graph graph.now) self.now.spot.cur self.now.spot.size self.now.work.now) }
+        ensures { MatchOption result (Unmarked (graph_of M.Map.graph graph.now) self.now.progress.cur self.now.progress.size self.now.work.now) (MarkedIn (graph_of M.Map.graph graph.now) self.now.progress.cur self.now.progress.size self.now.work.now) }
     {
-        let Spot { size, cur, .. } = self.spot;
+        let Progress { size, cur, .. } = self.progress;
         self.work[cur..size]
             .iter()
             .map(|record| record.node)
@@ -81,15 +81,15 @@ impl<'w> Search<'w> {
     // Are there several nodes in the component of a node, or does it lead to itself? Then a cycle passes it, since a
     // component is strongly connected.
     fn is_cyclic<M: Map>(&self, graph: &ImplicitGraph<'_, M>, node: u64) -> bool
-        ensures { Decides result ((self.now.spot.cur + 1 < self.now.spot.size) ⊎ Edge (graph_of M.Map.graph graph.now) node node) }
+        ensures { Decides result ((self.now.progress.cur + 1 < self.now.progress.size) ⊎ Edge (graph_of M.Map.graph graph.now) node node) }
     {
-        self.spot.size - self.spot.cur > 1 || has_self(graph, node)
+        self.progress.size - self.progress.cur > 1 || has_self(graph, node)
     }
 
     // Assesses a component where no marked cycle is found yet. A marked node on a cycle is the error: no measure is owed then.
     fn assess_new<M: Map>(&self, graph: &ImplicitGraph<'_, M>) -> Result<u32, u64>
-        requires { Rooted (graph_of M.Map.graph graph.now) self.now.spot.size self.now.spot.top self.now.spot.cur None self.now.work.now }
-        ensures { Assessment (graph_of M.Map.graph graph.now) self.now.spot.size self.now.spot.top self.now.spot.cur None self.now.work.now result }
+        requires { Rooted (graph_of M.Map.graph graph.now) self.now.progress.size self.now.progress.top self.now.progress.cur None self.now.work.now }
+        ensures { Assessment (graph_of M.Map.graph graph.now) self.now.progress.size self.now.progress.top self.now.progress.cur None self.now.work.now result }
     {
         let Some(node) = self.first_marked(graph) else {
             return Ok(self.weigh(graph));
@@ -103,10 +103,10 @@ impl<'w> Search<'w> {
     // Assesses the component that the current place is the root of: the measure of each of its nodes, or else a marked
     // node on a cycle, once one is found.
     pub(crate) fn assess<M: Map>(&self, graph: &ImplicitGraph<'_, M>) -> Result<u32, u64>
-        requires { IsRooted (graph_of M.Map.graph graph.now) self.now.spot self.now.work.now }
-        ensures { Assessment (graph_of M.Map.graph graph.now) self.now.spot.size self.now.spot.top self.now.spot.cur self.now.spot.found self.now.work.now result }
+        requires { IsRooted (graph_of M.Map.graph graph.now) self.now.progress self.now.work.now }
+        ensures { Assessment (graph_of M.Map.graph graph.now) self.now.progress.size self.now.progress.top self.now.progress.cur self.now.progress.found self.now.work.now result }
     {
-        match self.spot.found {
+        match self.progress.found {
             Some(node) => Err(node),
             None => self.assess_new(graph),
         }

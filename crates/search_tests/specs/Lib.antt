@@ -1,2 +1,2 @@
 pub mod Ends
-pub mod Sheets
+pub mod BitGraphs

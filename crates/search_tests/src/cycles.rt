@@ -1,6 +1,6 @@
 // Searches that find a marked node on a cycle. They still collect every node.
 use crate::samples::{count_up, in_a_row, plain, witnessed};
-use crate::{Ends, Sheet};
+use crate::{BitGraph, Ends};
 use std::test::Fail;
 
 #[test]
@@ -92,14 +92,14 @@ fn large_cycle(rt: HostRuntime) -> Result<(), Fail> {
 // The second start's cycle is found though the first start has none, and the first one's though the second has none.
 #[test]
 fn several_starts(rt: HostRuntime) -> Result<(), Fail> {
-    let second = Sheet {
+    let second = BitGraph {
         letters: 1,
         starts: 0b101,
         marks: 0b1011,
         rows: &[0b10, 0b0, 0b1000, 0b100],
     };
     witnessed(&rt, &second, &[0, 1, 2, 3], &[3])?;
-    let first = Sheet {
+    let first = BitGraph {
         letters: 1,
         starts: 0b101,
         marks: 0b1110,
@@ -111,7 +111,7 @@ fn several_starts(rt: HostRuntime) -> Result<(), Fail> {
 // A loop by the last letter alone, and a cycle by different letters.
 #[test]
 fn letters(rt: HostRuntime) -> Result<(), Fail> {
-    let own = Sheet {
+    let own = BitGraph {
         letters: 3,
         starts: 0b1,
         marks: 0b1,
@@ -120,14 +120,14 @@ fn letters(rt: HostRuntime) -> Result<(), Fail> {
     witnessed(&rt, &own, &[0, 1], &[0])?;
     let mut rows = [0; 255];
     rows[254] = 0b1;
-    let most = Sheet {
+    let most = BitGraph {
         letters: 255,
         starts: 0b1,
         marks: 0b1,
         rows: &rows,
     };
     witnessed(&rt, &most, &[0], &[0])?;
-    let both = Sheet {
+    let both = BitGraph {
         letters: 2,
         starts: 0b1,
         marks: 0b10,

@@ -2,6 +2,7 @@
 // tests are proved too, and so are the maps that they search.
 #![tactic(auto)]
 
+mod bit_graphs;
 #[cfg(test)]
 mod cycles;
 mod ends;
@@ -15,7 +16,6 @@ mod measures;
 mod rising;
 #[cfg(test)]
 mod samples;
-mod sheets;
 
+pub use bit_graphs::BitGraph;
 pub use ends::Ends;
-pub use sheets::Sheet;

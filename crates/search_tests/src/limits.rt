@@ -1,6 +1,6 @@
 // Tables of every length: 7 for one with no record or too many, 13 for one with too few for the nodes.
 use crate::samples::USED;
-use crate::{Ends, Sheet};
+use crate::{BitGraph, Ends};
 use fault::{Fault, SearchFault};
 use graph::Map;
 use lasso::NO_WORD;
@@ -23,7 +23,7 @@ fn count<M: Map>(
 }
 
 // 0 is the start, and leads nowhere.
-const ONE: Sheet<'static> = Sheet {
+const ONE: BitGraph<'static> = BitGraph {
     letters: 1,
     starts: 0b1,
     marks: 0b0,
@@ -31,7 +31,7 @@ const ONE: Sheet<'static> = Sheet {
 };
 
 #[test]
-fn table(rt: HostRuntime) {
+fn small_table(rt: HostRuntime) {
     assert_eq!(rt; check_table(&[]), Err(SearchFault::Table));
     assert_eq!(rt; check_table(&[USED]), Ok(()));
     assert_eq!(rt;
@@ -67,7 +67,7 @@ fn number_of_records(rt: HostRuntime) -> Result<(), Fail> {
 #[test]
 fn no_node(rt: HostRuntime) -> Result<(), Fail> {
     let heap = rt.alloc();
-    let none = Sheet {
+    let none = BitGraph {
         letters: 1,
         starts: 0,
         marks: 0,
@@ -102,7 +102,7 @@ fn unchanged(rt: HostRuntime) -> Result<(), Fail> {
 #[test]
 fn chain(rt: HostRuntime) -> Result<(), Fail> {
     let heap = rt.alloc();
-    let row = Sheet {
+    let row = BitGraph {
         letters: 1,
         starts: 0b1,
         marks: 0b11111,
@@ -112,7 +112,7 @@ fn chain(rt: HostRuntime) -> Result<(), Fail> {
     assert_eq!(rt; count(heap, &row, 4)?, FULL);
     assert_eq!(rt; count(heap, &row, 5)?, Ok(5));
     assert_eq!(rt; count(heap, &row, 6)?, Ok(5));
-    let ring = Sheet {
+    let ring = BitGraph {
         letters: 1,
         starts: 0b1,
         marks: 0b11111,
@@ -129,7 +129,7 @@ fn star(rt: HostRuntime) -> Result<(), Fail> {
     let heap = rt.alloc();
     let mut rows = [1; 64];
     rows[0] = u64::MAX - 1;
-    let out = Sheet {
+    let out = BitGraph {
         letters: 1,
         starts: 0b1,
         marks: 0,
@@ -137,7 +137,7 @@ fn star(rt: HostRuntime) -> Result<(), Fail> {
     };
     assert_eq!(rt; count(heap, &out, 63)?, FULL);
     assert_eq!(rt; count(heap, &out, 64)?, Ok(64));
-    let back = Sheet {
+    let back = BitGraph {
         letters: 1,
         starts: 0b1,
         marks: 0b1,
@@ -152,7 +152,7 @@ fn star(rt: HostRuntime) -> Result<(), Fail> {
 #[test]
 fn starts(rt: HostRuntime) -> Result<(), Fail> {
     let heap = rt.alloc();
-    let three = Sheet {
+    let three = BitGraph {
         letters: 1,
         starts: 0b10101,
         marks: 0,

@@ -1,6 +1,6 @@
 // Searches that find no marked node on a cycle: the greatest number of marked nodes on a walk from each node.
 use crate::samples::{alike, falling, in_a_row, measured, plain};
-use crate::{Ends, Sheet};
+use crate::{BitGraph, Ends};
 use std::test::Fail;
 
 #[test]
@@ -201,14 +201,14 @@ fn complete(rt: HostRuntime) -> Result<(), Fail> {
 // By two letters. 0 leads to 1 by both. Then 0 leads to 2 by the first and to 1 by the second, and 1 to 2 by the second.
 #[test]
 fn letters(rt: HostRuntime) -> Result<(), Fail> {
-    let same = Sheet {
+    let same = BitGraph {
         letters: 2,
         starts: 0b1,
         marks: 0b10,
         rows: &[0b10, 0b10],
     };
     measured(&rt, &same, &[(0, 1), (1, 1)])?;
-    let apart = Sheet {
+    let apart = BitGraph {
         letters: 2,
         starts: 0b1,
         marks: 0b110,
@@ -220,7 +220,7 @@ fn letters(rt: HostRuntime) -> Result<(), Fail> {
 // With no letter there is no edge. With 255 letters 0 leads to 1 by the last of them, and 1 nowhere.
 #[test]
 fn fewest_and_most_letters(rt: HostRuntime) -> Result<(), Fail> {
-    let none = Sheet {
+    let none = BitGraph {
         letters: 0,
         starts: 0b1,
         marks: 0b11,
@@ -229,7 +229,7 @@ fn fewest_and_most_letters(rt: HostRuntime) -> Result<(), Fail> {
     measured(&rt, &none, &[(0, 1)])?;
     let mut rows = [0; 255];
     rows[254] = 0b10;
-    let most = Sheet {
+    let most = BitGraph {
         letters: 255,
         starts: 0b1,
         marks: 0b11,

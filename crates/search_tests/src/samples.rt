@@ -1,7 +1,7 @@
 // What a search is expected to find. The order of the nodes is free.
 ghost use Rattle.std.specs.Prelude.{◌<◌};
 
-use crate::Sheet;
+use crate::BitGraph;
 use graph::Map;
 use lasso::NO_WORD;
 use search::{Record, survey};
@@ -17,8 +17,8 @@ pub(crate) const USED: Record = Record {
 };
 
 // A map with one letter: set v of these is what node v leads to.
-pub(crate) fn plain(starts: u64, marks: u64, rows: &[u64]) -> Sheet<'_> {
-    Sheet {
+pub(crate) fn plain(starts: u64, marks: u64, rows: &[u64]) -> BitGraph<'_> {
+    BitGraph {
         letters: 1,
         starts,
         marks,

@@ -87,7 +87,3 @@ module _ (a b : Automaton) (charts : Charts a b) where
 pub meets_shows : (a b : Automaton) → Charts a b → (c : Certificate) → Shaped c.kind (length c.records) c.stem
     → Meets (ranked_graph a b) c → Shows a b c
 meets_shows a b charts c shaped meets = meets_shows_for a b charts c.kind c.stem c.records shaped meets
-
--- a slip has a shape that goes with its kind
-pub slip_shaped : (s : Slip) → Shaped (content s).kind (length (content s).records) (content s).stem
-slip_shaped s = record { placed = s.placed; few = s.few }

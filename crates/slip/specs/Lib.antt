@@ -1,4 +1,6 @@
 pub mod Shapes
+pub mod Refusals
+pub mod Refused
 pub mod Certificates
 pub mod Rules
 pub mod Showing

@@ -1,5 +1,5 @@
 -- What the rules of slips ask, over a graph.
-use Rattle.std.specs.Prelude.{◌≡◌, ℕ, ◌<◌, ◌≤◌, true, List, length}
+use Rattle.std.specs.Prelude.{◌≡◌, ℕ, ◌<◌, ◌≤◌, true, List, length, Option, MatchOption}
 use Rattle.graph.specs.Graphs.{Graph}
 use Rattle.lasso.specs.Positions.{after}
 use Rattle.rules.specs.Numbered.{rule_kind, rule_number}
@@ -57,3 +57,7 @@ pub record FirstBreach (g : Graph) (c : Certificate) (b : Breach) : Type 0 where
   pub broken : Holds g c b.place b.rule → ⊥
   pub lower : (r : Rule) → rule_number r < rule_number b.rule → Holds g c b.place r
   pub before : (p : ℕ) (r : Rule) → p < b.place → Holds g c p r
+
+-- the slip meets its rules, or this is its first breach
+abbrev pub BreachTold : Graph → Certificate → Option Breach → Type 0
+BreachTold g c r = MatchOption r (Meets g c) (FirstBreach g c)

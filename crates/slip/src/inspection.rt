@@ -1,12 +1,12 @@
 // Which rule a slip breaks first.
-ghost use Rattle.std.specs.Prelude.{◌≡◌, ℕ, ◌<◌, ◌≤◌, true, length, Decides, MatchOption};
+ghost use Rattle.std.specs.Prelude.{◌≡◌, ℕ, ◌<◌, ◌≤◌, true, length, Decides};
 ghost use Rattle.graph.specs.Implicit.{graph_of, among};
 ghost use Rattle.lasso.specs.Positions.{after};
 ghost use Rattle.rules.specs.Numbered.{keep_number, break_number};
 ghost use Rattle.search.specs.Tables.{node_at};
 ghost use Rattle.slip.specs.Asked.{Within, Held, limit, MeetsKeep, MeetsBreak, Lowest, LowestAt, StandsAt};
 ghost use Rattle.slip.specs.Certificates.{content};
-ghost use Rattle.slip.specs.Rules.{Meets, FirstBreach};
+ghost use Rattle.slip.specs.Rules.{BreachTold};
 
 use crate::slips::Slip;
 use graph::{ImplicitGraph, Map, Nodes};
@@ -220,7 +220,7 @@ impl<'a, M: Map> Inspection<'a, M> {
 impl<'a> Slip<'a> {
     // The first rule that it breaks: the lowest place first, and there the lowest rule.
     pub fn first_breach<M: Map>(&self, map: &M, word: Word<'_>) -> Option<Breach>
-        ensures { MatchOption result (Meets (M.Map.graph map.now word.entry.elements.now word.entry.stem) (content self.now)) (FirstBreach (M.Map.graph map.now word.entry.elements.now word.entry.stem) (content self.now)) }
+        ensures { BreachTold (M.Map.graph map.now word.entry.elements.now word.entry.stem) (content self.now) result }
     {
         let inspection = Inspection {
             graph: ImplicitGraph { map, word },

@@ -1,7 +1,11 @@
 // A slip over records that are lent.
-ghost use Rattle.std.specs.Prelude.{◌≡◌, ◌<◌, ◌≤◌, length};
+ghost use Rattle.std.specs.Prelude.{◌≡◌, ◌<◌, ◌≤◌, length, MatchResult};
+ghost use Rattle.slip.specs.Refused.{TooMany};
 ghost use Rattle.slip.specs.Shapes.{stems};
+ghost use Rattle.slip.specs.declared.faults.SlipFault.TheVariants as faults;
 
+use crate::faults::SlipFault;
+use fault::LassoFault;
 use rules::Kind;
 use search::Record;
 
@@ -25,24 +29,44 @@ pub struct Slip<'a> {
     ghost few: { length records.now ≤ 131072 },
 }
 
-impl<'a> Slip<'a> {
-    ghost use Rattle.std.specs.Prelude.{MatchOption};
-    ghost use Rattle.slip.specs.Shapes.{Shaped};
-    ghost use Rattle.slip.specs.Certificates.{content};
+// A slip has at most as many records as a lasso may have elements; a keep slip may have none.
+fn check_count(count: usize) -> Result<(), LassoFault>
+    ensures { MatchResult result (λ _. count ≤ 131072) (TooMany count) }
+{
+    if count <= 131_072 {
+        Ok(())
+    } else {
+        Err(LassoFault::Limits)
+    }
+}
 
-    // None where there are more than 131,072 records, or the place does not go with the kind: for keep it is 0, for break it is
-    // that of a record.
-    pub fn new(kind: Kind, stem: usize, records: &'a [Record]) -> Option<Slip<'a>>
-        ensures { MatchOption result (Shaped kind (length records.now) stem → ⊥) (λ s. content s ≡ record { kind = kind; stem = stem; records = records.now }) }
+// Does the loop place go with the kind?
+fn check_stem(kind: Kind, stem: usize, count: usize) -> Result<(), SlipFault>
+    ensures { MatchResult result (λ _. stem < stems kind count) (λ e. (e ≡ faults.Shape) × (stems kind count ≤ stem)) }
+{
+    if stem < stems(kind, count) {
+        Ok(())
+    } else {
+        Err(SlipFault::Shape)
+    }
+}
+
+impl<'a> Slip<'a> {
+    ghost use Rattle.slip.specs.Certificates.{content};
+    ghost use Rattle.slip.specs.Refused.{SlipRefused};
+    ghost use Rattle.slip.specs.Shapes.{Shaped};
+
+    // A slip over lent records, which are not altered; a keep slip may have none. Refused by 8 (`Lasso`) where there are more than 131,072,
+    // then by 9 (`Shape`) where the loop place is not 0 for keep, or not below their number for break.
+    pub fn new(kind: Kind, stem: usize, records: &'a [Record]) -> Result<Slip<'a>, SlipFault>
+        ensures { MatchResult result (λ s. Shaped kind (length records.now) stem × (content s ≡ record { kind = kind; stem = stem; records = records.now })) (SlipRefused kind (length records.now) stem) }
     {
-        if stem < stems(kind, records.len()) && records.len() <= 131_072 {
-            Some(Slip {
-                kind,
-                stem,
-                records,
-            })
-        } else {
-            None
-        }
+        check_count(records.len())?;
+        check_stem(kind, stem, records.len())?;
+        Ok(Slip {
+            kind,
+            stem,
+            records,
+        })
     }
 }

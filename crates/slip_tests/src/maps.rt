@@ -2,7 +2,7 @@
 use graph::Map;
 use lasso::NO_WORD;
 use rules::{Breach, BreakRule, KeepRule, Kind, Rule};
-use search_tests::{Ends, Sheet};
+use search_tests::{BitGraph, Ends};
 use slip::{Record, Slip};
 use std::process::Abort;
 
@@ -109,7 +109,7 @@ fn greatest_node_marked(rt: HostRuntime) {
 fn letters(rt: HostRuntime) {
     let mut rows = [0; 255];
     rows[254] = 0b1;
-    let map = Sheet {
+    let map = BitGraph {
         letters: 255,
         starts: 0b1,
         marks: 0b1,
@@ -127,13 +127,13 @@ fn letters(rt: HostRuntime) {
 // 0 leads to 1, which leads nowhere.
 #[test]
 fn greatest_measures(rt: HostRuntime) {
-    let unmarked = Sheet {
+    let unmarked = BitGraph {
         letters: 1,
         starts: 0b1,
         marks: 0b0,
         rows: &[0b10],
     };
-    let marked = Sheet {
+    let marked = BitGraph {
         marks: 0b11,
         ..unmarked
     };

@@ -2,7 +2,7 @@
 
 // A chart by its rows, as a table chart reads them.
 #[derive(Clone, Copy)]
-pub struct Sheet {
+pub struct TableData {
     pub states: u8,
     pub letters: u8,
     pub starts: u32,
@@ -13,8 +13,8 @@ pub struct Sheet {
 #[derive(Clone, Copy)]
 pub struct Pair {
     pub name: &'static str,
-    pub duty: Sheet,
-    pub rule: Sheet,
+    pub duty: TableData,
+    pub rule: TableData,
 }
 
 // A ring of 24 states: `a` leads on to the next state and `b` back to the same one.
@@ -30,14 +30,14 @@ const RING: [u32; 48] = [
 pub const PAIRS: [Pair; 12] = [
     Pair {
         name: "3-512-break",
-        duty: Sheet {
+        duty: TableData {
             states: 3,
             letters: 2,
             starts: 0b001,
             marks: 0b110,
             rows: &[0b001, 0b110, 0b000, 0b100, 0b011, 0b100],
         },
-        rule: Sheet {
+        rule: TableData {
             states: 3,
             letters: 2,
             starts: 0b001,
@@ -47,14 +47,14 @@ pub const PAIRS: [Pair; 12] = [
     },
     Pair {
         name: "3-512-keep",
-        duty: Sheet {
+        duty: TableData {
             states: 3,
             letters: 2,
             starts: 0b001,
             marks: 0b100,
             rows: &[0b110, 0b101, 0b000, 0b001, 0b010, 0b000],
         },
-        rule: Sheet {
+        rule: TableData {
             states: 3,
             letters: 2,
             starts: 0b001,
@@ -64,7 +64,7 @@ pub const PAIRS: [Pair; 12] = [
     },
     Pair {
         name: "4-512-break",
-        duty: Sheet {
+        duty: TableData {
             states: 7,
             letters: 2,
             starts: 0b0000001,
@@ -74,7 +74,7 @@ pub const PAIRS: [Pair; 12] = [
                 0b0001000, 0b0100000, 0b0010000, 0b1000000, 0b0100000, 0b0000001, 0b1000000,
             ],
         },
-        rule: Sheet {
+        rule: TableData {
             states: 4,
             letters: 2,
             starts: 0b0001,
@@ -86,14 +86,14 @@ pub const PAIRS: [Pair; 12] = [
     },
     Pair {
         name: "4-512-keep",
-        duty: Sheet {
+        duty: TableData {
             states: 3,
             letters: 2,
             starts: 0b001,
             marks: 0b111,
             rows: &[0b010, 0b110, 0b100, 0b000, 0b000, 0b010],
         },
-        rule: Sheet {
+        rule: TableData {
             states: 4,
             letters: 2,
             starts: 0b0001,
@@ -105,7 +105,7 @@ pub const PAIRS: [Pair; 12] = [
     },
     Pair {
         name: "3-4096-break",
-        duty: Sheet {
+        duty: TableData {
             states: 5,
             letters: 2,
             starts: 0b00001,
@@ -115,7 +115,7 @@ pub const PAIRS: [Pair; 12] = [
                 0b01000,
             ],
         },
-        rule: Sheet {
+        rule: TableData {
             states: 3,
             letters: 2,
             starts: 0b001,
@@ -125,7 +125,7 @@ pub const PAIRS: [Pair; 12] = [
     },
     Pair {
         name: "3-4096-keep",
-        duty: Sheet {
+        duty: TableData {
             states: 5,
             letters: 2,
             starts: 0b00001,
@@ -135,7 +135,7 @@ pub const PAIRS: [Pair; 12] = [
                 0b00010,
             ],
         },
-        rule: Sheet {
+        rule: TableData {
             states: 3,
             letters: 2,
             starts: 0b001,
@@ -145,7 +145,7 @@ pub const PAIRS: [Pair; 12] = [
     },
     Pair {
         name: "4-4096-break",
-        duty: Sheet {
+        duty: TableData {
             states: 4,
             letters: 2,
             starts: 0b0001,
@@ -154,7 +154,7 @@ pub const PAIRS: [Pair; 12] = [
                 0b1010, 0b0000, 0b0010, 0b0100, 0b0000, 0b1001, 0b0000, 0b1100,
             ],
         },
-        rule: Sheet {
+        rule: TableData {
             states: 4,
             letters: 2,
             starts: 0b0001,
@@ -166,14 +166,14 @@ pub const PAIRS: [Pair; 12] = [
     },
     Pair {
         name: "4-4096-keep",
-        duty: Sheet {
+        duty: TableData {
             states: 2,
             letters: 2,
             starts: 0b01,
             marks: 0b11,
             rows: &[0b10, 0b00, 0b00, 0b01],
         },
-        rule: Sheet {
+        rule: TableData {
             states: 4,
             letters: 2,
             starts: 0b0001,
@@ -185,14 +185,14 @@ pub const PAIRS: [Pair; 12] = [
     },
     Pair {
         name: "3-25505-break",
-        duty: Sheet {
+        duty: TableData {
             states: 24,
             letters: 2,
             starts: 1,
             marks: 1,
             rows: &RING,
         },
-        rule: Sheet {
+        rule: TableData {
             states: 3,
             letters: 2,
             starts: 0b001,
@@ -202,14 +202,14 @@ pub const PAIRS: [Pair; 12] = [
     },
     Pair {
         name: "3-20308-keep",
-        duty: Sheet {
+        duty: TableData {
             states: 24,
             letters: 2,
             starts: 1,
             marks: 1,
             rows: &RING,
         },
-        rule: Sheet {
+        rule: TableData {
             states: 3,
             letters: 2,
             starts: 0b001,
@@ -219,14 +219,14 @@ pub const PAIRS: [Pair; 12] = [
     },
     Pair {
         name: "4-26931-break",
-        duty: Sheet {
+        duty: TableData {
             states: 3,
             letters: 2,
             starts: 0b001,
             marks: 0b100,
             rows: &[0b111, 0b000, 0b000, 0b101, 0b000, 0b010],
         },
-        rule: Sheet {
+        rule: TableData {
             states: 4,
             letters: 2,
             starts: 0b0001,
@@ -238,14 +238,14 @@ pub const PAIRS: [Pair; 12] = [
     },
     Pair {
         name: "4-23599-keep",
-        duty: Sheet {
+        duty: TableData {
             states: 3,
             letters: 2,
             starts: 0b001,
             marks: 0b100,
             rows: &[0b100, 0b010, 0b101, 0b111, 0b000, 0b111],
         },
-        rule: Sheet {
+        rule: TableData {
             states: 4,
             letters: 2,
             starts: 0b0001,

@@ -1,7 +1,7 @@
 // Pairs of charts with as many edges as were found for about 512 and 1,024 nodes, by one letter (`wide`) and by 16 (`dense`). In each
 // the duty steps from every state to every state by every letter; the rules came from random changes for the most edges, and were
 // then made plain. Bits beyond a chart's states say nothing.
-use crate::charts::{Pair, Sheet};
+use crate::charts::{Pair, TableData};
 
 // Every state is stepped to from every state, by every letter.
 const ALL: [u32; 512] = [0xffff_ffff; 512];
@@ -33,14 +33,14 @@ const SWITCH: [u32; 96] = [
 pub const DENSE: [Pair; 8] = [
     Pair {
         name: "wide-2-512-keep",
-        duty: Sheet {
+        duty: TableData {
             states: 32,
             letters: 1,
             starts: 0xffff_ffff,
             marks: 0,
             rows: &ALL,
         },
-        rule: Sheet {
+        rule: TableData {
             states: 2,
             letters: 1,
             starts: 0b1,
@@ -50,14 +50,14 @@ pub const DENSE: [Pair; 8] = [
     },
     Pair {
         name: "wide-5-1024-keep",
-        duty: Sheet {
+        duty: TableData {
             states: 28,
             letters: 1,
             starts: 0xffff,
             marks: 0,
             rows: &ALL,
         },
-        rule: Sheet {
+        rule: TableData {
             states: 5,
             letters: 1,
             starts: 0b1,
@@ -67,14 +67,14 @@ pub const DENSE: [Pair; 8] = [
     },
     Pair {
         name: "dense-2-512-keep",
-        duty: Sheet {
+        duty: TableData {
             states: 32,
             letters: 16,
             starts: 0xffff_ffff,
             marks: 0,
             rows: &ALL,
         },
-        rule: Sheet {
+        rule: TableData {
             states: 2,
             letters: 16,
             starts: 0b1,
@@ -84,14 +84,14 @@ pub const DENSE: [Pair; 8] = [
     },
     Pair {
         name: "dense-6-448-keep",
-        duty: Sheet {
+        duty: TableData {
             states: 32,
             letters: 16,
             starts: 0xffff_ffff,
             marks: 0,
             rows: &ALL,
         },
-        rule: Sheet {
+        rule: TableData {
             states: 6,
             letters: 16,
             starts: 0b1,
@@ -101,14 +101,14 @@ pub const DENSE: [Pair; 8] = [
     },
     Pair {
         name: "dense-3-512-break",
-        duty: Sheet {
+        duty: TableData {
             states: 27,
             letters: 16,
             starts: 0x03ff_ffff,
             marks: 0xffff_ffff,
             rows: &ALL,
         },
-        rule: Sheet {
+        rule: TableData {
             states: 3,
             letters: 16,
             starts: 0b1,
@@ -118,14 +118,14 @@ pub const DENSE: [Pair; 8] = [
     },
     Pair {
         name: "dense-5-1024-keep",
-        duty: Sheet {
+        duty: TableData {
             states: 28,
             letters: 16,
             starts: 0xffff,
             marks: 0,
             rows: &ALL,
         },
-        rule: Sheet {
+        rule: TableData {
             states: 5,
             letters: 16,
             starts: 0b1,
@@ -135,14 +135,14 @@ pub const DENSE: [Pair; 8] = [
     },
     Pair {
         name: "dense-6-1000-keep",
-        duty: Sheet {
+        duty: TableData {
             states: 20,
             letters: 16,
             starts: 0x000f_ffff,
             marks: 0,
             rows: &ALL,
         },
-        rule: Sheet {
+        rule: TableData {
             states: 6,
             letters: 16,
             starts: 0b1,
@@ -152,14 +152,14 @@ pub const DENSE: [Pair; 8] = [
     },
     Pair {
         name: "dense-5-1014-break",
-        duty: Sheet {
+        duty: TableData {
             states: 26,
             letters: 16,
             starts: 0x03ff_ffff,
             marks: 0xffff_ffff,
             rows: &ALL,
         },
-        rule: Sheet {
+        rule: TableData {
             states: 5,
             letters: 16,
             starts: 0b1,

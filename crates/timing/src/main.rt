@@ -28,7 +28,7 @@ fn time_inspection(
         node.letter = 0;
     }
     let count = nodes.len();
-    let slip = Slip::new(Kind::Keep, 0, nodes).ok_or_else(|| anyhow!("there is no such slip"))?;
+    let slip = Slip::new(Kind::Keep, 0, nodes).map_err(|_| anyhow!("there is no such slip"))?;
     let begun = Instant::now(rt)?;
     let breach = slip.first_breach(map, NO_WORD);
     let spent = begun.elapsed(rt)?.as_micros();

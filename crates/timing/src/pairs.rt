@@ -1,6 +1,6 @@
 // Tells how long the ranked graphs of the pairs take: to make the map, to search it, to ask it for each edge, and, on a bench, to
 // judge the pair and to inspect the slip.
-use crate::charts::{PAIRS, Pair, Sheet};
+use crate::charts::{PAIRS, Pair, TableData};
 use crate::dense::DENSE;
 use crate::walks::count_edges;
 use anyhow::anyhow;
@@ -11,13 +11,13 @@ use ranked::RankedMap;
 use search::{Findings, Record, survey};
 use std::time::Instant;
 
-fn table(sheet: &Sheet) -> anyhow::Result<Table<'static>> {
+fn table(chart: &TableData) -> anyhow::Result<Table<'static>> {
     Table::new(
-        sheet.states,
-        sheet.letters,
-        sheet.starts,
-        sheet.marks,
-        sheet.rows,
+        chart.states,
+        chart.letters,
+        chart.starts,
+        chart.marks,
+        chart.rows,
     )
     .map_err(|_| anyhow!("the chart is refused"))
 }

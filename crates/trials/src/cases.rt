@@ -1,6 +1,6 @@
 // The lines of a case.
-use crate::desks::{Desk, write_refusal};
-use crate::figures::{Sheet, read_numbers};
+use crate::figures::{OwnedTable, read_numbers};
+use crate::sessions::{Session, write_refusal};
 use anyhow::Context;
 use bench::Bench;
 use std::alloc::Global;
@@ -18,8 +18,8 @@ pub(crate) fn try_case<W: Write>(heap: Global, case: &[String], out: &mut W) -> 
         return Ok(());
     }
     let mut lines = case.iter();
-    let duty = Sheet::read(heap, after(lines.next(), "duty ")?)?;
-    let rule = Sheet::read(heap, after(lines.next(), "rule ")?)?;
+    let duty = OwnedTable::read(heap, after(lines.next(), "duty ")?)?;
+    let rule = OwnedTable::read(heap, after(lines.next(), "rule ")?)?;
     let room = after(lines.next(), "room ")?.parse::<usize>()?;
     let made = match (duty.table(), rule.table()) {
         (Ok(duty), Ok(rule)) => Bench::new(duty, rule, room),
@@ -28,9 +28,9 @@ pub(crate) fn try_case<W: Write>(heap: Global, case: &[String], out: &mut W) -> 
     match made {
         Ok(bench) => {
             writeln!(out, "made")?;
-            let mut desk = Desk::new(heap, bench, room)?;
+            let mut session = Session::new(heap, bench, room)?;
             for line in lines {
-                try_line(heap, &mut desk, line.as_str(), out)?;
+                try_line(heap, &mut session, line.as_str(), out)?;
             }
         }
         Err(fault) => {
@@ -43,11 +43,11 @@ pub(crate) fn try_case<W: Write>(heap: Global, case: &[String], out: &mut W) -> 
 
 fn try_line<W: Write>(
     heap: Global,
-    desk: &mut Desk<'_>,
+    session: &mut Session<'_>,
     line: &str,
     out: &mut W,
 ) -> anyhow::Result<()> {
     let (name, rest) = line.split_once(' ').unwrap_or((line, ""));
     let numbers = read_numbers(heap, rest)?;
-    desk.call(heap, name, numbers.as_slice(), out)
+    session.call(heap, name, numbers.as_slice(), out)
 }

@@ -31,7 +31,7 @@ pub(crate) fn read_records(heap: Global, numbers: &[u64]) -> anyhow::Result<Vec<
 
 // A table chart with its rows.
 #[derive(Drop)]
-pub(crate) struct Sheet {
+pub(crate) struct OwnedTable {
     states: u8,
     letters: u8,
     starts: u32,
@@ -39,8 +39,8 @@ pub(crate) struct Sheet {
     rows: Vec<u32>,
 }
 
-impl Sheet {
-    pub(crate) fn read(heap: Global, text: &str) -> anyhow::Result<Sheet> {
+impl OwnedTable {
+    pub(crate) fn read(heap: Global, text: &str) -> anyhow::Result<OwnedTable> {
         let numbers = read_numbers(heap, text)?;
         let (head, tail) = numbers
             .as_slice()
@@ -51,7 +51,7 @@ impl Sheet {
             rows.push(u32::try_from(*row)?)?;
         }
         let [states, letters, starts, marks] = *head;
-        Ok(Sheet {
+        Ok(OwnedTable {
             states: u8::try_from(states)?,
             letters: u8::try_from(letters)?,
             starts: u32::try_from(starts)?,

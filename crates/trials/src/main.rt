@@ -19,8 +19,8 @@
 #![tactic(auto)]
 
 mod cases;
-mod desks;
 mod figures;
+mod sessions;
 
 use std::io::{self, BufRead, BufReader, BufWriter, Write};
 

@@ -5,7 +5,7 @@ use chart::{Fitted, Table, Union};
 use fault::{BenchFault, ChartFault};
 use rules::{Breach, BreakRule, KeepRule, Rule};
 use std::test::Fail;
-use verdict::{Kind, Record, confirm};
+use verdict::{Form, Kind, Record, confirm};
 
 fn marked() -> Result<Table<'static>, ChartFault> {
     one_state(0b1, 0b1, &LOOP)
@@ -15,7 +15,7 @@ fn unmarked() -> Result<Table<'static>, ChartFault> {
     one_state(0b1, 0b0, &LOOP)
 }
 
-// A passed slip hands out its loop. The rest of the table stays as it was.
+// A passed slip stands in the table. The rest of it stays as it was.
 #[test]
 fn breaks(rt: HostRuntime) -> Result<(), Fail> {
     let records = nodes![12288, 8224, 8192];
@@ -25,7 +25,7 @@ fn breaks(rt: HostRuntime) -> Result<(), Fail> {
         measure: 9,
     };
     let mut table = [used; 4];
-    let out = confirm(
+    let form = confirm(
         marked()?,
         unmarked()?,
         2,
@@ -34,12 +34,17 @@ fn breaks(rt: HostRuntime) -> Result<(), Fail> {
         &records,
         &mut table,
     )?;
-    assert_eq!(rt; out, nodes![8224, 8192].as_slice());
+    let given = Form {
+        kind: Kind::Break,
+        count: 3,
+        stem: 1,
+    };
+    assert_eq!(rt; form, given);
     assert_eq!(rt; table, [records[0], records[1], records[2], used]);
     Ok(())
 }
 
-// A union as the duty, and a fitted chart as the rule. All of a keep slip is handed out.
+// A union as the duty, and a fitted chart as the rule.
 #[test]
 fn keeps(rt: HostRuntime) -> Result<(), Fail> {
     let records = nodes![4192, 12384, 12288, 12288];
@@ -47,18 +52,24 @@ fn keeps(rt: HostRuntime) -> Result<(), Fail> {
     let duty = Union::new(marked()?, silent)?;
     let rule = Fitted::new(marked()?);
     let mut table = [Record::default(); 4];
-    let out = confirm(duty, rule, 2, Kind::Keep, 0, &records, &mut table)?;
-    assert_eq!(rt; out, records.as_slice());
+    let form = confirm(duty, rule, 2, Kind::Keep, 0, &records, &mut table)?;
+    let given = Form {
+        kind: Kind::Keep,
+        count: 4,
+        stem: 0,
+    };
+    assert_eq!(rt; form, given);
+    assert_eq!(rt; table, records);
     Ok(())
 }
 
 type Told = Result<usize, BenchFault>;
 
-// How many records are handed out for a slip in a room of 2, or why none are.
+// How many records a slip has that is confirmed in a room of 2, or why it is not.
 fn told(kind: Kind, stem: usize, records: &[Record]) -> Result<Told, ChartFault> {
     let mut table = [Record::default(); 4];
     let out = confirm(marked()?, unmarked()?, 2, kind, stem, records, &mut table);
-    Ok(out.map(|released| released.len()))
+    Ok(out.map(|form| form.count))
 }
 
 #[test]
@@ -67,7 +78,7 @@ fn shapes(rt: HostRuntime) -> Result<(), Fail> {
     let five = nodes![12288, 12384, 12384, 8224, 8192];
     assert_eq!(rt; told(Kind::Break, 3, &five)?, shape);
     let three = nodes![12288, 8224, 8192];
-    assert_eq!(rt; told(Kind::Break, 1, &three)?, Ok(2));
+    assert_eq!(rt; told(Kind::Break, 1, &three)?, Ok(3));
     assert_eq!(rt; told(Kind::Break, 3, &three)?, shape);
     assert_eq!(rt; told(Kind::Break, 0, &[])?, shape);
     assert_eq!(rt; told(Kind::Keep, 1, &three)?, shape);
@@ -107,7 +118,7 @@ fn said(states: u8, letters: u8, room: usize, kind: Kind, stem: usize) -> Result
     let rule = Table::new(states, letters, 0b1, 0, &rows)?;
     let mut table = [Record::default(); 4];
     let out = confirm(marked()?, rule, room, kind, stem, &[], &mut table);
-    Ok(out.map(|released| released.len()))
+    Ok(out.map(|form| form.count))
 }
 
 // 5 comes before 6, 6 before 7, 7 before 9, and 9 before 14.

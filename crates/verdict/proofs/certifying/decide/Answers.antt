@@ -1,15 +1,13 @@
-use Rattle.std.proofs.Common.{◌∙◌, ap, refl, take}
-use Rattle.bench.specs.States.{stem_of}
-use Rattle.verdict.proofs.Calling.{handed_out}
+use Rattle.std.proofs.Common.{[]}
+use Rattle.verdict.proofs.Calling.{decided, some_table}
 use Rattle.verdict.proofs.certifying.decide.Goals as goal
-
-pub returns-in_err-inspect : goal.returns-in_err-inspect
-returns-in_err-inspect g c =
-    absurd (c.in_ok-verdict.ensures.passes c.inspect.new.self.state c.in_err-inspect.field-0.0 c.in_err-inspect.ensures.answer)
 
 pub returns : goal.returns
 returns g c =
-    handed_out g.D.Chart.meaning g.R.Chart.meaning _ _ c.args.room c.in_ok-bench.bench c.judge.new.self c.inspect.new.self c.args.table.now
-    c.args.work.now c.judge.new.table c.judge.new.work c.in_ok-verdict.verdict c.in_ok-bench.ensures.law c.in_ok-bench.ensures.answer.same_room
-    c.in_ok-verdict.ensures.answer c.in_ok-verdict.ensures.law c.in_ok-inspect.ensures.law _ refl c.in_ok-released.ensures.hands
-    (c.before_loop-stem.ensures ∙ ap (λ s. take (stem_of s) c.judge.new.table) c.state.ensures)
+    let a = g.D.Chart.meaning c.args.duty in
+    let b = g.R.Chart.meaning c.args.rule in
+    let n = c.args.room in
+    let new = c.in_ok-bench.ensures.answer in
+    let mine = some_table n in
+    decided a b n new.same_letters new.few_states new.allowed c.args.table.now c.certify.new.table c.args.work.now c.certify.new.work
+    c.certify.result (c.certify.ensures a b n [] mine.0 (c.in_ok-bench.ensures.law mine.0 mine.1))

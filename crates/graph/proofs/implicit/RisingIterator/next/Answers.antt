@@ -12,8 +12,9 @@ returns-clause-steps g c =
       same_graph = refl;
       same_nodes = refl;
       gives =
-          rw c.in_ok-self.was
-          (next_found (among m s.nodes) c.in_ok-self.field-0 c.in_ok-next.next (among_below m bounds s.nodes)
+          rw c.in_ok-from.was
+          (next_found (among m s.nodes) c.in_ok-from.from c.in_ok-next.next (among_below m bounds s.nodes)
           c.in_ok-next.ensures c.checked_add-self.result c.checked_add-self.ensures);
-      behind = rw c.in_ok-self.was (λ passed. omega (arith, passed, c.in_ok-next.ensures.0));
+      behind = rw c.in_ok-from.was (λ passed. omega (arith, passed, c.in_ok-next.ensures.0));
+      stays = tt;
     }

@@ -3,7 +3,7 @@ use Rattle.graph.specs.declared.implicit.Rising.{Rising}
 use Rattle.search.specs.declared.records.Record.{Record}
 use Rattle.graph.specs.Implicit.{graph_of, among}
 use Rattle.graph.specs.Ascending.{Passed}
-use Rattle.search.specs.Trips.{graph_for, Halted}
+use Rattle.search.specs.Queues.{graph_for, Halted}
 use Rattle.search.proofs.Queueing.{no_room, taken_none, taken_next, taken_all, leads_more}
 use Rattle.graph.proofs.Ascending.{next_of}
 use Rattle.search.proofs.queues.Queue.add_all.Goals as goal
@@ -13,62 +13,62 @@ loop-node-init g c =
     let s = c.args.self.now in
     let i = c.into_iter-node-iterator in
     let r = c.rising-node-items.ensures in
-    let trip = c.args.trip.now in
+    let query = c.args.query.now in
     let from = ap (λ (x : Rising _). x.from) i.ensures.into_iter_gives ∙ r.from in
-    let P = among (graph_of g.M.Map.graph trip.graph) c.args.nodes in (
+    let P = among (graph_of g.M.Map.graph query.graph) c.args.nodes in (
       ap (λ (x : Rising _). x.graph) i.ensures.into_iter_gives ∙ r.graph,
       ap (λ (x : Rising _). x.nodes) i.ensures.into_iter_gives ∙ r.nodes,
       search rules,
-      taken_none (graph_for g.M.Map.graph trip) trip.to (λ v. (P v ≡ true) × Passed i.result.from v) s.size s.work.now c.requires.queued
+      taken_none (graph_for g.M.Map.graph query) query.to (λ v. (P v ≡ true) × Passed i.result.from v) s.size s.work.now c.requires.queued
           (λ v (is, passed). let below : v < 0 = subst (λ f. Passed f v) from passed in omega arith),
     )
 
 pub loop-node-preserved : goal.loop-node-preserved
 loop-node-preserved g c =
     let s = c.args.self.now in
-    let trip = c.args.trip.now in
+    let query = c.args.query.now in
     let mid = c.loop-node.self in
     let work = c.add.new.self in
     let (graph, nodes, same, taken) = c.loop-node.invariant in
     let rises = c.in-Some.ensures.steps in
     let gives =
-    next_of g.M.Map.graph c.loop-node.node-iterator c.next.new.self (Some c.in-Some.node) trip.graph c.args.nodes graph nodes rises in
+    next_of g.M.Map.graph c.loop-node.node-iterator c.next.new.self (Some c.in-Some.node) query.graph c.args.nodes graph nodes rises in
     let table = c.in_ok-add.ensures.same_table in (
       rises.same_graph ∙ graph,
       rises.same_nodes ∙ nodes,
       record { reference = table.reference ∙ same.reference; len = table.len ∙ same.len },
-      taken_next (graph_for g.M.Map.graph trip) trip.to (among (graph_of g.M.Map.graph trip.graph) c.args.nodes) c.args.by
+      taken_next (graph_for g.M.Map.graph query) query.to (among (graph_of g.M.Map.graph query.graph) c.args.nodes) c.args.by
           c.loop-node.node-iterator.from c.next.new.self.from c.in-Some.node s.size s.work.now mid.size mid.work.now work.size work.work.now
-          c.requires.leads gives c.if-node-trip.false taken c.in_ok-add.ensures.added,
+          c.requires.leads gives c.if-node-query.false taken c.in_ok-add.ensures.added,
     )
 
-pub returns-then-node-trip-clause-added : goal.returns-then-node-trip-clause-added
-returns-then-node-trip-clause-added g c =
+pub returns-then-node-query-clause-added : goal.returns-then-node-query-clause-added
+returns-then-node-query-clause-added g c =
     let s = c.args.self.now in
-    let trip = c.args.trip.now in
+    let query = c.args.query.now in
     let mid = c.loop-node.self in
-    let P = among (graph_of g.M.Map.graph trip.graph) c.args.nodes in
+    let P = among (graph_of g.M.Map.graph query.graph) c.args.nodes in
     let (graph, nodes, same, taken) = c.loop-node.invariant in
     let gives =
-    next_of g.M.Map.graph c.loop-node.node-iterator c.next.new.self (Some c.in-Some.node) trip.graph c.args.nodes graph nodes c.in-Some.ensures.steps in
-    let (reached, link) = leads_more (graph_for g.M.Map.graph trip) P c.args.by s.size s.work.now mid.size mid.work.now c.requires.leads taken.longer
-    trip.to (subst (λ x. P x ≡ true) c.if-node-trip.true gives.0) in
+    next_of g.M.Map.graph c.loop-node.node-iterator c.next.new.self (Some c.in-Some.node) query.graph c.args.nodes graph nodes c.in-Some.ensures.steps in
+    let (reached, link) = leads_more (graph_for g.M.Map.graph query) P c.args.by s.size s.work.now mid.size mid.work.now c.requires.leads taken.longer
+    query.to (subst (λ x. P x ≡ true) c.if-node-query.true gives.0) in
     (taken.queued, link, reached, c.requires.leaves)
 
 pub returns-in_err-add-clause-added : goal.returns-in_err-add-clause-added
 returns-in_err-add-clause-added g c =
     let s = c.args.self.now in
-    let trip = c.args.trip.now in
+    let query = c.args.query.now in
     let mid = c.loop-node.self in
     let work = c.add.new.self in
-    let G = graph_for g.M.Map.graph trip in
-    let P = among (graph_of g.M.Map.graph trip.graph) c.args.nodes in
+    let G = graph_for g.M.Map.graph query in
+    let P = among (graph_of g.M.Map.graph query.graph) c.args.nodes in
     let (graph, nodes, same, taken) = c.loop-node.invariant in
     let gives =
-    next_of g.M.Map.graph c.loop-node.node-iterator c.next.new.self (Some c.in-Some.node) trip.graph c.args.nodes graph nodes c.in-Some.ensures.steps in
+    next_of g.M.Map.graph c.loop-node.node-iterator c.next.new.self (Some c.in-Some.node) query.graph c.args.nodes graph nodes c.in-Some.ensures.steps in
     let r : Record = record { node = c.in-Some.node; letter = c.args.by.letter; measure = c.args.by.measure } in
-    let halted : Halted G trip.from trip.to work.size work.work.now c.in_err-add.field-0.0 =
-    no_room G trip.from trip.to r mid.size mid.work.now work.size work.work.now c.in_err-add.field-0.0 taken.queued
+    let halted : Halted G query.from query.to work.size work.work.now c.in_err-add.field-0.0 =
+    no_room G query.from query.to r mid.size mid.work.now work.size work.work.now c.in_err-add.field-0.0 taken.queued
     (leads_more G P c.args.by s.size s.work.now mid.size mid.work.now c.requires.leads taken.longer c.in-Some.node gives.0).0
     c.in_err-add.ensures.same_table.len c.in_err-add.ensures.added in
     search rules
@@ -76,12 +76,12 @@ returns-in_err-add-clause-added g c =
 pub returns-clause-added : goal.returns-clause-added
 returns-clause-added g c =
     let s = c.args.self.now in
-    let trip = c.args.trip.now in
+    let query = c.args.query.now in
     let mid = c.loop-node.self in
-    let P = among (graph_of g.M.Map.graph trip.graph) c.args.nodes in
+    let P = among (graph_of g.M.Map.graph query.graph) c.args.nodes in
     let (graph, nodes, same, taken) = c.loop-node.invariant in
     let gives =
-    next_of g.M.Map.graph c.loop-node.node-iterator c.next.new.self None trip.graph c.args.nodes graph nodes c.in-None.ensures.steps in
-    taken_all (graph_for g.M.Map.graph trip) trip.to (λ v. (P v ≡ true) × Passed c.loop-node.node-iterator.from v) (λ v. P v ≡ true)
+    next_of g.M.Map.graph c.loop-node.node-iterator c.next.new.self None query.graph c.args.nodes graph nodes c.in-None.ensures.steps in
+    taken_all (graph_for g.M.Map.graph query) query.to (λ v. (P v ≡ true) × Passed c.loop-node.node-iterator.from v) (λ v. P v ≡ true)
     s.size s.work.now mid.size mid.work.now
     taken (λ v is. (is, gives v is))

@@ -3,7 +3,7 @@ use Rattle.graph.specs.Walks.{Edge}
 use Rattle.search.specs.declared.records.Record.{Record}
 use Rattle.graph.specs.Implicit.{graph_of}
 use Rattle.search.specs.Tables.{node_at}
-use Rattle.search.specs.Trips.{graph_for}
+use Rattle.search.specs.Queues.{graph_for}
 use Rattle.search.specs.Weights.{ByLetters}
 use Rattle.search.proofs.Queueing.{leads_letter, taken_letter, taken_all}
 use Rattle.search.proofs.queues.Queue.expand.Goals as goal
@@ -15,21 +15,21 @@ add_all-requires-clause-leads g c =
     let taken = c.loop-letter.invariant.1 in
     let v = node_at s.work.now c.args.place in
     let by : Record = record { node = v; letter = c.loop-letter.letter; measure = c.args.place + 1 } in
-    let few : c.loop-letter.letter < (graph_of g.M.Map.graph c.args.trip.now.graph).letters =
+    let few : c.loop-letter.letter < (graph_of g.M.Map.graph c.args.query.now.graph).letters =
     omega (arith, c.letters-letter-end.ensures, c.loop-letter-test.true) in
-    leads_letter (graph_for g.M.Map.graph c.args.trip.now) c.args.place v c.loop-letter.letter by mid.size mid.work.now taken.queued
+    leads_letter (graph_for g.M.Map.graph c.args.query.now) c.args.place v c.loop-letter.letter by mid.size mid.work.now taken.queued
     (omega (arith, c.requires.inside, taken.longer.more)) (taken.longer.same c.args.place c.requires.inside) few refl (omega arith)
 
 pub loop-letter-preserved : goal.loop-letter-preserved
 loop-letter-preserved g c =
     let s = c.args.self.now in
-    let trip = c.args.trip.now in
+    let query = c.args.query.now in
     let mid = c.loop-letter.self in
     let work = c.add_all.new.self in
     let (same, taken) = c.loop-letter.invariant in
     let table = c.in_ok-add_all.ensures.same_table in (
       record { reference = table.reference ∙ same.reference; len = table.len ∙ same.len },
-      taken_letter (graph_for g.M.Map.graph trip) trip.to (node_at s.work.now c.args.place) c.loop-letter.letter
+      taken_letter (graph_for g.M.Map.graph query) query.to (node_at s.work.now c.args.place) c.loop-letter.letter
           s.size s.work.now mid.size mid.work.now work.size work.work.now
           taken c.in_ok-add_all.ensures.added,
     )
@@ -37,9 +37,9 @@ loop-letter-preserved g c =
 pub returns-clause-added : goal.returns-clause-added
 returns-clause-added g c =
     let s = c.args.self.now in
-    let trip = c.args.trip.now in
+    let query = c.args.query.now in
     let mid = c.loop-letter.self in
-    let m = graph_of g.M.Map.graph trip.graph in
+    let m = graph_of g.M.Map.graph query.graph in
     let v = node_at s.work.now c.args.place in
-    taken_all (graph_for g.M.Map.graph trip) trip.to (ByLetters m v c.loop-letter.letter) (Edge m v) s.size s.work.now mid.size mid.work.now
+    taken_all (graph_for g.M.Map.graph query) query.to (ByLetters m v c.loop-letter.letter) (Edge m v) s.size s.work.now mid.size mid.work.now
     c.loop-letter.invariant.1 (λ w (l, few, e). (l, omega (arith, c.letters-letter-end.ensures, c.loop-letter-test.false), e))

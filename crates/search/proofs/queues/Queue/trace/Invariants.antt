@@ -1,7 +1,7 @@
 use Rattle.std.proofs.Common.{ℕ, ◌+◌, ◌<◌, ◌≤◌}
 use Rattle.graph.specs.Graphs.{Graph}
 use Rattle.search.specs.Tables.{node_at}
-use Rattle.search.specs.Trips.{Link, IsQueued}
+use Rattle.search.specs.Queues.{Link, IsQueued}
 use Rattle.search.proofs.Tracing.{Tracing}
 use Rattle.search.proofs.queues.Queue.trace.Given as goal
 

@@ -1,6 +1,0 @@
-use Rattle.report.proofs.Telling.{told}
-use Rattle.report.proofs.courses.tell_both.Goals as goal
-
-pub returns : goal.returns
-returns c =
-    told c.args.duty.now c.args.rule.now c.in_ok-certified.certified c.tell.result c.in_ok-certified.ensures.answer c.tell.ensures

@@ -1,9 +1,0 @@
-use Rattle.std.proofs.Common.{◌+◌, length}
-use Rattle.graph.specs.Implicit.{graph_of}
-use Rattle.search.specs.Tables.{node_at, measure_at}
-use Rattle.search.specs.Trees.{Heavy, Follows}
-use Rattle.search.proofs.spots.Search.weigh.Given as goal
-
-abbrev pub invariant-loop-record : goal.invariant-loop-record
-invariant-loop-record g l =
-    Heavy (Follows (graph_of g.M.Map.graph l.graph) (node_at l.self.work.now) l.self.spot.cur (l.self.spot.cur + l.record-index)) l.self.spot.top (length l.self.work.now) (node_at l.self.work.now) (measure_at l.self.work.now) l.best

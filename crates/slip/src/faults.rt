@@ -1,0 +1,48 @@
+// Why a slip is not made.
+ghost use Rattle.std.specs.Prelude.{◌≡◌};
+ghost use Rattle.slip.specs.Refusals.{slip_refusal};
+ghost use Rattle.slip.specs.declared.faults.SlipFault.TheVariants as faults;
+
+use fault::{Fault, LassoFault};
+use rules::Rule;
+
+#[derive(Clone, Copy, PartialEq, Eq, Debug)]
+pub enum SlipFault {
+    // it has more records than a lasso may have elements
+    Lasso(LassoFault),
+    // its loop place does not go with its kind: for keep it is 0, for break it is that of a record
+    Shape,
+}
+
+impl From<LassoFault> for SlipFault {
+    ghost from_gives = { λ e r. r ≡ faults.Lasso e };
+
+    fn from(e: LassoFault) -> SlipFault {
+        SlipFault::Lasso(e)
+    }
+}
+
+impl Fault for SlipFault {
+    ghost refusal = { slip_refusal };
+
+    fn number(&self) -> u8 {
+        match *self {
+            SlipFault::Lasso(e) => e.number(),
+            SlipFault::Shape => 9,
+        }
+    }
+
+    fn place(&self) -> usize {
+        match *self {
+            SlipFault::Lasso(e) => e.place(),
+            SlipFault::Shape => 0,
+        }
+    }
+
+    fn rule(&self) -> Option<Rule> {
+        match *self {
+            SlipFault::Lasso(e) => e.rule(),
+            SlipFault::Shape => None,
+        }
+    }
+}
