@@ -1,10 +1,10 @@
 #!/usr/bin/env python3
 """Builds ranked graphs apart from the repository's definitions, and compares.
 
-First with the answers that the tests in crates/ranked_tests expect: of each node its number, where its edges lead by each
-letter, whether it is marked and on a cycle, and a measure, and the starts for rules of one to six states. Then on random pairs
-of charts: what the graph tells against what runs over short words tell; pairs whose graphs have more than 3,000 nodes are left
-out. Not part of the gate.
+First with the answers that the tests in crates/ranked_tests expect: of each node where its edges lead by each letter, whether
+it is marked and on a cycle, and a measure, and the starts for rules of one, two and six states. Then on random pairs of charts:
+what the graph tells against what runs over short words tell; pairs whose graphs have more than 3,000 nodes are left out. Not
+part of the gate.
 
     python3 tests/ranked_graph.py [pairs] [seed]
 """
@@ -144,7 +144,7 @@ def rows(duty, edges):
 
 
 def told(duty, rule):
-    """A ranked graph as wholes.rt writes it."""
+    """A ranked graph as the tests write it."""
     edges = graph(duty, rule)
     order = sorted(edges, key=number)
     witnesses = [n for n in order if is_marked(n) and path(edges, [n], n) is not None]
@@ -158,12 +158,30 @@ def told(duty, rule):
     }
 
 
+NODE = re.compile(r"(?:node!)?\((\d+): \[([^\]]*)\](?: owed (\w+))?( turn)?\)")
+
+
+def number_written(found):
+    """The number of a node that the tests write as (duty: [ranks] owed set turn)."""
+    duty, ranks, owed, turn = found.groups()
+    ranks = tuple(None if r == "-" else int(r) for r in ranks.split())
+    owed = frozenset(q for q in range(len(ranks)) if int(owed or "0", 0) >> q & 1)
+    return str(number(Node(int(duty), ranks, owed, int(turn is not None))))
+
+
+def rows_written(found):
+    """The pairs of a table that the tests write as node => [next, ..] [next, ..]; .."""
+    pairs = [row.split("=>") for row in found.group(1).split(";") if row.strip()]
+    return "[%s]" % ", ".join(f"({node}, [{successors.replace('] [', '], [')}])" for node, successors in pairs)
+
+
 def constants(name):
-    """The constants of a file of tests."""
-    text = (TESTS / name).read_text()
+    """The constants of a file of tests, by name."""
+    text = re.sub(r"\s+", " ", re.sub(r"//.*", "", (TESTS / name).read_text()))
+    text = re.sub(r"rows!\[(.*?;) \]", rows_written, NODE.sub(number_written, text)).replace("&", "")
     found = {}
-    for constant, value in re.findall(r"^const (\w+): [^=]* = (?:Whole )?(.*?);$", text, re.M | re.S):
-        found[constant] = ast.literal_eval(re.sub(r"(\w+):", r'"\1":', value.replace("&", "")))
+    for constant, value in re.findall(r"const (\w+): (?:Whole|\[\(u8, Node\); \d+\]) = (?:Whole )?(.*?);", text):
+        found[constant] = ast.literal_eval(re.sub(r"(\w+):", r'"\1":', value))
     return found
 
 
@@ -211,27 +229,27 @@ def main():
     marked_loop = Chart(1, 1, {0}, {0}, {(0, a, 0)})
     unmarked_loop = Chart(1, 1, {0}, set(), {(0, a, 0)})
     every_second = Chart(2, 1, {0}, {1}, {(0, a, 1), (1, a, 0)})
-    one_b = Chart(2, 2, {0}, {1}, {(0, b, 1), (1, a, 1)})
-    few_b = Chart(2, 2, {0}, {1}, {(0, a, 0), (0, b, 0), (0, a, 1), (1, a, 1)})
+    duty = Chart(2, 2, {0}, {1}, {(0, a, 1), (0, b, 0), (0, b, 1), (1, b, 1)})
+    rule = Chart(2, 2, {0}, {1}, {(0, b, 1), (1, a, 0), (1, a, 1), (1, b, 1)})
+    by_letters = [Chart(2, 2, {0, 1}, {marked}, {(0, a, 0), (1, b, 1)}) for marked in range(2)]
     no_start = Chart(1, 1, set(), set(), {(0, a, 0)})
-    still = [Chart(n, 1, {0}, set(), set()) for n in range(1, 7)]
+    still = {n: Chart(n, 1, {0}, set(), set()) for n in (1, 2, 6)}
     pairs = {
-        "MARKED_TWICE": (marked_loop, marked_loop),
-        "UNMARKED_TWICE": (unmarked_loop, unmarked_loop),
+        "MARKED_AND_UNMARKED": (marked_loop, unmarked_loop),
         "EVERY_SECOND": (marked_loop, every_second),
-        "ONE_B": (one_b, few_b),
-        "STILL_RULE": (marked_loop, still[0]),
-        "NO_START_RULE": (marked_loop, no_start),
-        "STILL_DUTY": (still[0], unmarked_loop),
-        "NO_START_DUTY": (no_start, unmarked_loop),
+        "CHOICES": (duty, rule),
+        "STILL_RULE": (marked_loop, still[1]),
+        "STARTLESS_RULE": (marked_loop, no_start),
+        "STILL_DUTY": (still[1], unmarked_loop),
+        "STARTLESS_DUTY": (no_start, unmarked_loop),
+        "BY_LETTERS": tuple(by_letters),
     }
-    expected = constants("wholes.rt")
+    expected = constants("wholes.rt") | constants("kinds.rt")
     for name, pair in pairs.items():
         assert told(*pair) == whole(expected[name]), name
-    assert [number(node) for rule in still for node in starts(marked_loop, rule)] == expected["STARTS"]
-    nodes = dict(constants("loops.rt")["NODES"])
-    assert rows(marked_loop, graph(marked_loop, unmarked_loop)) == nodes
-    print(f"the {len(pairs) + 1} graphs that are tested agree, and the starts for {len(still)} rules")
+    found = [(n, number(node)) for n, rule in still.items() for node in starts(marked_loop, rule)]
+    assert found == expected["STARTS"]
+    print(f"the {len(pairs)} graphs that are tested agree, and the starts for {len(still)} rules")
     arguments = [int(x) for x in sys.argv[1:]] + [200, 1][len(sys.argv) - 1 :]
     compare(*arguments)
 

@@ -3,11 +3,11 @@ use Rattle.std.proofs.Common.{◌≡◌, ◌∙◌, ℕ, ◌++◌, List, length,
 use Rattle.bench.specs.Drafting.{Wrote}
 use Rattle.graph.specs.Graphs.{Graph, Bounded}
 use Rattle.graph.specs.Witnesses.{MarkedLasso}
-use Rattle.rules.specs.declared.Kind.TheVariants.{Break}
-use Rattle.search.specs.Lassos.{Written}
-use Rattle.search.specs.Tables.{node_at, letter_at}
-use Rattle.search.specs.declared.lassos.Extent.{Extent}
-use Rattle.search.specs.declared.records.Record.{Record}
+use Rattle.slip.specs.declared.kinds.Kind.TheVariants.{Break}
+use Rattle.paths.specs.Lassos.{Written}
+use Rattle.records.specs.Tables.{node_at, letter_at}
+use Rattle.paths.specs.declared.lassos.Extent.{Extent}
+use Rattle.records.specs.declared.record.Record.{Record}
 use Rattle.slip.proofs.Meeting.{lasso_meets}
 
 pub break_wrote : (g : Graph) (node room : ℕ) → Bounded g → (was table : List Record) (c : Extent) → Written g node room was table c → (nodes : ℕ)

@@ -10,15 +10,15 @@ use Rattle.rank.specs.Containment.{Charts, Included, Differs}
 use Rattle.rank.specs.Ranked.{ranked_graph}
 use Rattle.rank.proofs.Deciding.{cycles_decide, lassos_tell}
 use Rattle.search.specs.Surveys.{Collected, Surveyed, Told}
-use Rattle.search.specs.Tables.{node_at}
-use Rattle.search.specs.declared.records.Record.{Record}
+use Rattle.records.specs.Tables.{node_at}
+use Rattle.records.specs.declared.record.Record.{Record}
 use Rattle.search.specs.declared.surveys.Findings.{Findings}
 use Rattle.bench.specs.Drafting.{Searched, Wrote, kind_of, verdict_of}
 use Rattle.bench.specs.Verdicts.{Decides, Forbidden, IsVerdict}
 use Rattle.bench.specs.declared.states.Form.{Form}
 use Rattle.bench.specs.declared.verdicts.Verdict.{Verdict}
-use Rattle.rules.specs.declared.Kind.{Kind}
-use Rattle.rules.specs.declared.Kind.TheVariants.{Keep, Break}
+use Rattle.slip.specs.declared.kinds.Kind.{Kind}
+use Rattle.slip.specs.declared.kinds.Kind.TheVariants.{Keep, Break}
 
 -- a marked cycle among few nodes has a short loop, whose letters are the word
 pub cycle_forbidden : (a b : Automaton) → Charts a b → (n : ℕ) → n ≤ 65536 → Count (ranked_graph a b) n → MarkedCycle (ranked_graph a b) → Forbidden a b
@@ -27,9 +27,9 @@ cycle_forbidden a b charts n few count cycle =
     let (l, short) = cycle_short_loop g n count.at count.whole cycle in
     record {
       word = loop_word g l;
-      stem = l.from;
+      stem = l.back.from;
       good = word_good g l (omega (arith, short));
-      alone = lassos_tell a b charts l.at (loop_word g l) l.from (word_lasso g l);
+      alone = lassos_tell a b charts l.at (loop_word g l) l.back.from (word_lasso g l);
     }
 
 collected_count : (g : Graph) (n : ℕ) (work : List Record) → Collected g n work → Count g n

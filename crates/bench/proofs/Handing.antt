@@ -2,9 +2,9 @@
 use Rattle.std.proofs.Common.{◌≡◌, ◌∙◌, ℕ, ◌+◌, ◌-◌, ◌<◌, List, ap, drop, sym, take, arith}
 use Rattle.std.proofs.lemmas.List.{drop-take}
 use Rattle.bench.specs.Slips.{handed_for}
-use Rattle.rules.specs.declared.Kind.{Kind}
-use Rattle.rules.specs.declared.Kind.TheVariants.{Keep, Break}
-use Rattle.search.specs.declared.records.Record.{Record}
+use Rattle.slip.specs.declared.kinds.Kind.{Kind}
+use Rattle.slip.specs.declared.kinds.Kind.TheVariants.{Keep, Break}
+use Rattle.records.specs.declared.record.Record.{Record}
 use Rattle.slip.specs.Shapes.{stems}
 
 pub loop_part : (kind : Kind) (count stem : ℕ) (table : List Record) → kind ≡ Break → stem < stems kind count

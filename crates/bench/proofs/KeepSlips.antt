@@ -5,11 +5,11 @@ use Rattle.std.proofs.lemmas.List.{get_or-take, length-take-le}
 use Rattle.bench.specs.Drafting.{Cleared, Wrote}
 use Rattle.graph.specs.Graphs.{Graph, Bounded}
 use Rattle.graph.specs.Walks.{Measure, Reach}
-use Rattle.rules.specs.declared.Kind.TheVariants.{Keep}
+use Rattle.slip.specs.declared.kinds.Kind.TheVariants.{Keep}
 use Rattle.search.specs.Surveys.{Collected, Told}
-use Rattle.search.specs.Tables.{blank, node_at, measure_at}
-use Rattle.search.specs.declared.records.Record.{Record}
-use Rattle.slip.specs.Showing.{Measured}
+use Rattle.records.specs.Tables.{blank, node_at, measure_at}
+use Rattle.records.specs.declared.record.Record.{Record}
+use Rattle.slip.specs.Measured.{Measured}
 use Rattle.slip.proofs.Meeting.{measured_meets}
 
 module _ (g : Graph) (room count : ℕ) (bounds : Bounded g) (work rs : List Record) (found : Collected g count work) (told : Told g count work None)

@@ -19,20 +19,20 @@ use Rattle.bench.proofs.Steps.{Kept, Step, found_passed, inspect_kept, inspect_s
 use Rattle.bench.proofs.Telling.{told_sound}
 use Rattle.chart.specs.Automata.{Automaton}
 use Rattle.chart.specs.Fits.{fitted_of_limits}
-use Rattle.chart.specs.Meanings.{fitted_of}
-use Rattle.fault.specs.declared.BenchFault.{BenchFault}
-use Rattle.fault.specs.declared.BenchFault.TheVariants as faults
+use Rattle.bench.specs.declared.faults.BenchFault.{BenchFault}
+use Rattle.bench.specs.declared.faults.BenchFault.TheVariants as faults
 use Rattle.rank.specs.Containment.{Charts}
-use Rattle.search.specs.declared.records.Record.{Record}
+use Rattle.ranked.specs.Instances.{duty_in, rule_in}
+use Rattle.records.specs.declared.record.Record.{Record}
 use Rattle.slip.specs.Certificates.{Certificate}
 
 module _ {D R : Type 0} (meaning_d : D → Automaton) (meaning_r : R → Automaton) where
   pub charts_on : (s : Bench D R) → Charts (duty_on meaning_d s) (rule_on meaning_r s)
   charts_on s =
       record {
-        duty = fitted_of_limits meaning_d s.duty;
-        rule = fitted_of_limits meaning_r s.rule;
-        few_states = s.few_states;
+        duty = fitted_of_limits meaning_d s.instance.duty;
+        rule = fitted_of_limits meaning_r s.instance.rule;
+        few_states = s.instance.few_states;
       }
 
   module _ (a b : Automaton) (room : ℕ) (calls : List Call) (told : Status) (s : Bench D R) (mine : List Record)
@@ -52,8 +52,8 @@ module _ {D R : Type 0} (meaning_d : D → Automaton) (meaning_r : R → Automat
         → Sized room mine' → Agrees now s'.state mine' → LedTo meaning_d meaning_r a b room (call ∷ calls) now s' mine'
     led_on s' same call now follows mine' sized agrees =
         record {
-          duty = ap (fitted_of meaning_d) same.duty ∙ led.duty;
-          rule = ap (fitted_of meaning_r) same.rule ∙ led.rule;
+          duty = ap (duty_in meaning_d) same.instance ∙ led.duty;
+          rule = ap (rule_in meaning_r) same.instance ∙ led.rule;
           same_room = same.room ∙ led.same_room;
           tells = (told, led.tells, follows);
           sized = sized;
@@ -119,7 +119,7 @@ module _ {D R : Type 0} (meaning_d : D → Automaton) (meaning_r : R → Automat
       → ReleaseTells (duty_on meaning_d s) (rule_on meaning_r s) s.room s.state table r
       → Law meaning_d meaning_r (Call.release r) s table s table
   release_law s table r tells =
-      law (Call.release r) s table s table (record { duty = refl; rule = refl; room = refl })
+      law (Call.release r) s table s table (record { instance = refl; room = refl })
       (λ a b room. ReleaseTells a b room s.state table r) tells
       (λ a b room told sized agrees. release_step a b room s.state table told sized agrees r)
       (λ a b room unsized. release_kept a b room s.state table unsized r)
@@ -176,6 +176,6 @@ module _ {D R : Type 0} (meaning_d : D → Automaton) (meaning_r : R → Automat
       → IfOk r (λ v. WillPass (duty_on meaning_d s') (rule_on meaning_r s') s'.room s'.state table')
   judge_next s table work s' table' work' r tells same =
       subst (λ n. IfOk r (λ v. WillPass (duty_on meaning_d s') (rule_on meaning_r s') n s'.state table')) (sym same.room)
-      (subst (λ y. IfOk r (λ v. WillPass (duty_on meaning_d s') y s.room s'.state table')) (sym (ap (fitted_of meaning_r) same.rule))
-      (subst (λ x. IfOk r (λ v. WillPass x (rule_on meaning_r s) s.room s'.state table')) (sym (ap (fitted_of meaning_d) same.duty))
+      (subst (λ y. IfOk r (λ v. WillPass (duty_on meaning_d s') y s.room s'.state table')) (sym (ap (rule_in meaning_r) same.instance))
+      (subst (λ x. IfOk r (λ v. WillPass x (rule_on meaning_r s) s.room s'.state table')) (sym (ap (duty_in meaning_d) same.instance))
       (judge_passes (duty_on meaning_d s) (rule_on meaning_r s) s.room s.state table work s'.state table' work' r tells)))

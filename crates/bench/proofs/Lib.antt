@@ -3,6 +3,7 @@ pub mod KeepSlips
 pub mod BreakSlips
 pub mod Deciding
 pub mod Standing
+pub mod Showing
 pub mod Telling
 pub mod Steps
 pub mod Passing

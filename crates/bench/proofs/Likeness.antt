@@ -9,13 +9,13 @@ use Rattle.bench.specs.declared.states.State.{State}
 use Rattle.bench.specs.declared.verdicts.Verdict.{Verdict}
 use Rattle.bench.proofs.Telling.{has_drafted, has_passed, has_some, release_same}
 use Rattle.chart.specs.Automata.{Automaton}
-use Rattle.fault.specs.declared.BenchFault.{BenchFault}
-use Rattle.fault.specs.declared.BenchFault.TheVariants as faults
-use Rattle.fault.specs.declared.SearchFault.TheVariants.{Full}
+use Rattle.bench.specs.declared.faults.BenchFault.{BenchFault}
+use Rattle.bench.specs.declared.faults.BenchFault.TheVariants as faults
+use Rattle.records.specs.declared.faults.SearchFault.TheVariants.{Full}
 use Rattle.rank.specs.Ranked.{ranked_graph}
-use Rattle.rules.specs.declared.Kind.{Kind}
-use Rattle.rules.specs.declared.Kind.TheVariants.{Keep, Break}
-use Rattle.search.specs.declared.records.Record.{Record}
+use Rattle.slip.specs.declared.kinds.Kind.{Kind}
+use Rattle.slip.specs.declared.kinds.Kind.TheVariants.{Keep, Break}
+use Rattle.records.specs.declared.record.Record.{Record}
 use Rattle.slip.specs.Certificates.{Certificate}
 use Rattle.slip.specs.Rules.{Meets}
 use Rattle.slip.specs.Shapes.{stems}

@@ -9,10 +9,10 @@ use Rattle.bench.specs.declared.states.State.TheVariants.{Drafted}
 use Rattle.bench.specs.declared.verdicts.Verdict.{Verdict}
 use Rattle.bench.proofs.Standing.{length_over, slip_over}
 use Rattle.chart.specs.Automata.{Automaton}
-use Rattle.fault.specs.declared.BenchFault.{BenchFault}
-use Rattle.fault.specs.declared.BenchFault.TheVariants as faults
+use Rattle.bench.specs.declared.faults.BenchFault.{BenchFault}
+use Rattle.bench.specs.declared.faults.BenchFault.TheVariants as faults
 use Rattle.rank.specs.Ranked.{ranked_graph}
-use Rattle.search.specs.declared.records.Record.{Record}
+use Rattle.records.specs.declared.record.Record.{Record}
 use Rattle.slip.specs.Rules.{FirstBreach}
 use Rattle.slip.proofs.Breaches.{met_or_broken}
 

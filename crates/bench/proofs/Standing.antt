@@ -4,7 +4,7 @@ use Rattle.std.proofs.Math.Seq.{take-append_seam}
 use Rattle.std.proofs.lemmas.List.{length-append, length-drop}
 use Rattle.bench.specs.Slips.{form_of, over, slip_at}
 use Rattle.bench.specs.Tellings.{First}
-use Rattle.search.specs.declared.records.Record.{Record}
+use Rattle.records.specs.declared.record.Record.{Record}
 use Rattle.slip.specs.Certificates.{Certificate}
 
 pub first_over : (c : Certificate) (table : List Record) → First c (over c.records table)

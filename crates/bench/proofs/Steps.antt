@@ -11,11 +11,11 @@ use Rattle.bench.specs.declared.states.State.TheVariants.{Empty, Drafted, Passed
 use Rattle.bench.specs.declared.verdicts.Verdict.{Verdict}
 use Rattle.bench.proofs.Standing.{first_over, length_over, slip_first}
 use Rattle.chart.specs.Automata.{Automaton}
-use Rattle.fault.specs.declared.BenchFault.{BenchFault}
-use Rattle.fault.specs.declared.BenchFault.TheVariants as faults
-use Rattle.fault.specs.declared.SearchFault.TheVariants.{Full}
+use Rattle.bench.specs.declared.faults.BenchFault.{BenchFault}
+use Rattle.bench.specs.declared.faults.BenchFault.TheVariants as faults
+use Rattle.records.specs.declared.faults.SearchFault.TheVariants.{Full}
 use Rattle.rank.specs.Ranked.{ranked_graph}
-use Rattle.search.specs.declared.records.Record.{Record}
+use Rattle.records.specs.declared.record.Record.{Record}
 use Rattle.slip.specs.Certificates.{Certificate}
 use Rattle.slip.specs.Rules.{FirstBreach, Meets}
 

@@ -5,15 +5,15 @@ use Rattle.bench.specs.Slips.{Fits}
 use Rattle.bench.specs.Tellings.{Call, Status, Follows, Has, Sound, Tells}
 use Rattle.bench.specs.declared.verdicts.Verdict.{Verdict}
 use Rattle.chart.specs.Automata.{Automaton}
-use Rattle.fault.specs.declared.BenchFault.{BenchFault}
-use Rattle.fault.specs.declared.BenchFault.TheVariants as faults
-use Rattle.fault.specs.declared.SearchFault.TheVariants.{Full}
+use Rattle.bench.specs.declared.faults.BenchFault.{BenchFault}
+use Rattle.bench.specs.declared.faults.BenchFault.TheVariants as faults
+use Rattle.records.specs.declared.faults.SearchFault.TheVariants.{Full}
 use Rattle.rank.specs.Containment.{Charts}
 use Rattle.rank.specs.Ranked.{ranked_graph}
-use Rattle.search.specs.declared.records.Record.{Record}
+use Rattle.records.specs.declared.record.Record.{Record}
 use Rattle.slip.specs.Certificates.{Certificate}
 use Rattle.slip.specs.Rules.{Meets}
-use Rattle.slip.proofs.Telling.{meets_shows}
+use Rattle.bench.proofs.Showing.{meets_shows}
 
 pub has_drafted : (x c : Certificate) → Has (Status.drafted x) c → x ≡ c
 has_drafted x c = ⊎_elim (λ (e : Status.drafted x ≡ Status.drafted c). cc) (λ (e : Status.drafted x ≡ Status.passed c). absurd (cc))

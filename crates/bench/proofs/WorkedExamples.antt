@@ -17,18 +17,18 @@ use Rattle.rank.specs.Containment.{Differs, Included}
 use Rattle.rank.specs.Ranked.{ranked_graph}
 use Rattle.rank.proofs.Implied.{implied, implied_from}
 use Rattle.rank.proofs.Tests.{edge_holds}
-use Rattle.rules.specs.Numbered.{rule_kind, rule_number}
-use Rattle.rules.specs.declared.Breach.{Breach}
-use Rattle.rules.specs.declared.BreakRule.{BreakRule}
-use Rattle.rules.specs.declared.BreakRule.TheVariants as breaks
-use Rattle.rules.specs.declared.KeepRule.{KeepRule}
-use Rattle.rules.specs.declared.KeepRule.TheVariants as keeps
-use Rattle.rules.specs.declared.Kind.{Kind}
-use Rattle.rules.specs.declared.Kind.TheVariants.{Keep, Break}
-use Rattle.rules.specs.declared.Rule.{Rule}
-use Rattle.rules.specs.declared.Rule.TheVariants as of
-use Rattle.search.specs.Tables.{blank, node_at, letter_at, measure_at}
-use Rattle.search.specs.declared.records.Record.{Record}
+use Rattle.slip.specs.Numbered.{rule_kind, rule_number}
+use Rattle.slip.specs.declared.kinds.Breach.{Breach}
+use Rattle.slip.specs.declared.kinds.BreakRule.{BreakRule}
+use Rattle.slip.specs.declared.kinds.BreakRule.TheVariants as breaks
+use Rattle.slip.specs.declared.kinds.KeepRule.{KeepRule}
+use Rattle.slip.specs.declared.kinds.KeepRule.TheVariants as keeps
+use Rattle.slip.specs.declared.kinds.Kind.{Kind}
+use Rattle.slip.specs.declared.kinds.Kind.TheVariants.{Keep, Break}
+use Rattle.slip.specs.declared.kinds.Rule.{Rule}
+use Rattle.slip.specs.declared.kinds.Rule.TheVariants as of
+use Rattle.records.specs.Tables.{blank, node_at, letter_at, measure_at}
+use Rattle.records.specs.declared.record.Record.{Record}
 use Rattle.slip.specs.Certificates.{Certificate}
 use Rattle.slip.specs.Rules as rules
 use Rattle.slip.specs.Rules.{BreakHolds, FirstBreach, HoldsFor, KeepHolds, Meets}
@@ -40,11 +40,9 @@ use Rattle.bench.specs.Verdicts.{IsVerdict}
 use Rattle.bench.proofs.Deciding.{cycle_forbidden, told_decides}
 use Rattle.bench.proofs.WorkedGraphs.{Entry, Worked, entry, entry_at, graph_of, graphs_hold, worked}
 use Rattle.bench.proofs.WorkedGraphs as graphs
+use Rattle.numbers.proofs.Below.{itself}
 
 -- what tests decide
-itself : (b : Bool) → Decides b (b ≡ true)
-itself b = (λ e. e, λ e. e)
-
 least : (m n : ℕ) → Decides (leb m n) (m ≤ n)
 least m n = (leb-true m n, le-leb m n)
 

@@ -183,7 +183,7 @@ size_limits t e =
     let p = and_parts (leb 1 t.states && leb t.states 32) (leb 1 t.letters && leb t.letters 16) e in
     let q = and_parts (leb 1 t.states) (leb t.states 32) p.0 in
     let r = and_parts (leb 1 t.letters) (leb t.letters 16) p.1 in
-    fitted_limits t.states t.letters (rowwise t.states t.letters t.starts t.marks t.rows)
+    fitted_limits t.states t.letters (rowwise t.states t.letters t.letters t.starts t.marks t.rows)
     (record {
       some_states = leb-true 1 t.states q.0;
       few_states = leb-true t.states 32 q.1;

@@ -9,17 +9,17 @@ use Rattle.bench.specs.declared.states.State.{State}
 use Rattle.bench.specs.declared.states.State.TheVariants.{Empty, Drafted, Passed}
 use Rattle.bench.specs.declared.verdicts.Verdict.{Verdict}
 use Rattle.chart.specs.Automata.{Automaton}
-use Rattle.fault.specs.declared.BenchFault.{BenchFault}
-use Rattle.fault.specs.declared.BenchFault.TheVariants.{Room, Shape, Occupied, Vacant, Unpassed, Search, Broken}
-use Rattle.fault.specs.declared.SearchFault.TheVariants.{Full}
+use Rattle.bench.specs.declared.faults.BenchFault.{BenchFault}
+use Rattle.bench.specs.declared.faults.BenchFault.TheVariants.{Room, Shape, Occupied, Vacant, Unpassed, Search, Broken}
+use Rattle.records.specs.declared.faults.SearchFault.TheVariants.{Full}
 use Rattle.graph.specs.Graphs.{Graph}
 use Rattle.graph.specs.Walks.{More}
 use Rattle.rank.specs.Ranked.{ranked_graph}
-use Rattle.rules.specs.declared.Kind.TheVariants.{Keep}
-use Rattle.search.specs.declared.records.Record.{Record}
+use Rattle.slip.specs.declared.kinds.Kind.TheVariants.{Keep}
+use Rattle.records.specs.declared.record.Record.{Record}
 use Rattle.slip.specs.Certificates.{Certificate}
 use Rattle.slip.specs.Rules.{Meets, FirstBreach}
-use Rattle.slip.specs.Showing.{Measured}
+use Rattle.slip.specs.Measured.{Measured}
 
 -- the slip table has twice as many records as the room
 abbrev pub Sized : ℕ → List Record → Type 0

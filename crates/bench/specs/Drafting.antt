@@ -6,16 +6,16 @@ use Rattle.bench.specs.Verdicts.{Decides}
 use Rattle.bench.specs.declared.states.Form.{Form}
 use Rattle.bench.specs.declared.verdicts.Verdict.{Verdict}
 use Rattle.chart.specs.Automata.{Automaton}
-use Rattle.fault.specs.declared.BenchFault.{BenchFault}
-use Rattle.fault.specs.declared.BenchFault.TheVariants.{Search}
-use Rattle.fault.specs.declared.SearchFault.TheVariants.{Full}
+use Rattle.bench.specs.declared.faults.BenchFault.{BenchFault}
+use Rattle.bench.specs.declared.faults.BenchFault.TheVariants.{Search}
+use Rattle.records.specs.declared.faults.SearchFault.TheVariants.{Full}
 use Rattle.graph.specs.Graphs.{Graph}
 use Rattle.graph.specs.Walks.{More}
 use Rattle.rank.specs.Ranked.{ranked_graph}
-use Rattle.rules.specs.declared.Kind.{Kind}
-use Rattle.rules.specs.declared.Kind.TheVariants.{Keep, Break}
-use Rattle.search.specs.Tables.{node_at, letter_at, measure_at}
-use Rattle.search.specs.declared.records.Record.{Record}
+use Rattle.slip.specs.declared.kinds.Kind.{Kind}
+use Rattle.slip.specs.declared.kinds.Kind.TheVariants.{Keep, Break}
+use Rattle.records.specs.Tables.{node_at, letter_at, measure_at}
+use Rattle.records.specs.declared.record.Record.{Record}
 use Rattle.search.specs.declared.surveys.Findings.{Findings}
 use Rattle.slip.specs.Certificates.{Certificate}
 

@@ -8,12 +8,12 @@ use Rattle.chart.specs.Kinds.{table}
 use Rattle.graph.specs.Walks.{More}
 use Rattle.rank.specs.Containment.{Charts}
 use Rattle.rank.specs.Ranked.{ranked_graph}
-use Rattle.rules.specs.declared.Breach.{Breach}
-use Rattle.rules.specs.declared.BreakRule.TheVariants as breaks
-use Rattle.rules.specs.declared.KeepRule.TheVariants as keeps
-use Rattle.rules.specs.declared.Kind.{Kind}
-use Rattle.rules.specs.declared.Kind.TheVariants.{Keep, Break}
-use Rattle.rules.specs.declared.Rule.TheVariants as of
+use Rattle.slip.specs.declared.kinds.Breach.{Breach}
+use Rattle.slip.specs.declared.kinds.BreakRule.TheVariants as breaks
+use Rattle.slip.specs.declared.kinds.KeepRule.TheVariants as keeps
+use Rattle.slip.specs.declared.kinds.Kind.{Kind}
+use Rattle.slip.specs.declared.kinds.Kind.TheVariants.{Keep, Break}
+use Rattle.slip.specs.declared.kinds.Rule.TheVariants as of
 use Rattle.slip.specs.Certificates.{Certificate}
 use Rattle.slip.specs.Rules.{FirstBreach, Meets}
 

@@ -9,8 +9,8 @@ use Rattle.bench.specs.declared.benches.Bench.{Bench}
 use Rattle.bench.specs.declared.states.State.{State}
 use Rattle.bench.specs.declared.states.State.TheVariants.{Empty, Drafted, Passed}
 use Rattle.chart.specs.Automata.{Automaton}
-use Rattle.fault.specs.declared.BenchFault.{BenchFault}
-use Rattle.search.specs.declared.records.Record.{Record}
+use Rattle.bench.specs.declared.faults.BenchFault.{BenchFault}
+use Rattle.records.specs.declared.record.Record.{Record}
 use Rattle.slip.specs.Certificates.{Certificate}
 
 -- A bench's state and its table agree with what is told: the form of the slip is known, and its records are the first of the table.

@@ -2,6 +2,8 @@ pub mod States
 pub mod Slips
 pub mod Benches
 pub mod Verdicts
+pub mod Refusals
+pub mod Showing
 pub mod Shown
 pub mod Making
 pub mod Calls

@@ -7,16 +7,16 @@ use Rattle.bench.specs.Slips.{Fits, handed, over}
 use Rattle.bench.specs.Verdicts.{Decides}
 use Rattle.bench.specs.declared.verdicts.Verdict.{Verdict}
 use Rattle.chart.specs.Automata.{Automaton}
-use Rattle.fault.specs.declared.BenchFault.{BenchFault}
-use Rattle.fault.specs.declared.BenchFault.TheVariants.{Room, Shape, Occupied, Vacant, Unpassed, Search, Broken}
-use Rattle.fault.specs.declared.SearchFault.TheVariants.{Full}
+use Rattle.bench.specs.declared.faults.BenchFault.{BenchFault}
+use Rattle.bench.specs.declared.faults.BenchFault.TheVariants.{Room, Shape, Occupied, Vacant, Unpassed, Search, Broken}
+use Rattle.records.specs.declared.faults.SearchFault.TheVariants.{Full}
 use Rattle.graph.specs.Walks.{More}
 use Rattle.rank.specs.Ranked.{ranked_graph}
-use Rattle.rules.specs.declared.Kind.TheVariants.{Break}
-use Rattle.search.specs.declared.records.Record.{Record}
+use Rattle.slip.specs.declared.kinds.Kind.TheVariants.{Break}
+use Rattle.records.specs.declared.record.Record.{Record}
 use Rattle.slip.specs.Certificates.{Certificate}
 use Rattle.slip.specs.Rules.{Meets, FirstBreach}
-use Rattle.slip.specs.Showing.{Shows}
+use Rattle.bench.specs.Showing.{Shows}
 
 -- A call, with what it was given that matters, and what it answered. A call that was lent a table of another length is one, too.
 pub data Call : Type 0 where

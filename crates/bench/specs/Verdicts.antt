@@ -6,8 +6,8 @@ use Rattle.graph.specs.Walks.{Count}
 use Rattle.lasso.specs.Words.{IsWord}
 use Rattle.rank.specs.Containment.{Included, Differs, TakenAlone}
 use Rattle.rank.specs.Ranked.{ranked_graph}
-use Rattle.rules.specs.declared.Kind.{Kind}
-use Rattle.rules.specs.declared.Kind.TheVariants.{Keep, Break}
+use Rattle.slip.specs.declared.kinds.Kind.{Kind}
+use Rattle.slip.specs.declared.kinds.Kind.TheVariants.{Keep, Break}
 
 -- a word within the limits of words that the duty takes and the rule does not
 pub record Forbidden (a b : Automaton) : Type 0 where

@@ -1,24 +1,21 @@
 // The bench itself, and how it is made.
 ghost use Rattle.std.specs.Prelude.{◌≡◌, ◌*◌, ◌<◌, ◌≤◌};
-ghost use Rattle.search.specs.Surveys.{Allowed};
+ghost use Rattle.records.specs.Sizes.{Allowed};
 ghost use Rattle.bench.specs.States.{count_of, stem_of, stems_of};
 
+use crate::faults::BenchFault;
 use crate::states::State;
-use chart::{Chart, Fitted};
-use fault::BenchFault;
-use ranked::RankedMap;
-use search::Record;
+use chart::Chart;
+use ranked::{Instance, RankedMap};
+use records::Record;
 
 // A duty, a rule, a room for so many nodes of their ranked graph, and what is known of the slip, whose records stand in a table
 // that the caller lends to each call.
 #[derive(Drop)]
 pub struct Bench<D, R> {
-    pub(crate) duty: Fitted<D>,
-    pub(crate) rule: Fitted<R>,
+    pub(crate) instance: Instance<D, R>,
     pub(crate) room: usize,
     pub(crate) state: State,
-    ghost same_letters: { duty.size.letters ≡ rule.size.letters },
-    ghost few_states: { rule.size.states ≤ 6 },
     ghost allowed: { Allowed room },
     // the slip fits into the table, and its loop place goes with its kind
     ghost within: { count_of state ≤ 2 * room },
@@ -36,20 +33,12 @@ impl<D: Chart + Drop, R: Chart + Drop> Bench<D, R> {
     fn set_up(duty: D, rule: R, room: usize) -> Result<Bench<D, R>, BenchFault>
         ensures { MatchResult result (NewBench D.Chart.meaning R.Chart.meaning duty rule room) (NewRefused (D.Chart.meaning duty) (R.Chart.meaning rule) room) }
     {
-        let duty = Fitted::new(duty);
-        let rule = Fitted::new(rule);
-        if duty.letters() != rule.letters() {
-            return Err(BenchFault::Letters);
-        }
-        if rule.states() > 6 {
-            return Err(BenchFault::States);
-        }
+        let instance = Instance::new(duty, rule)?;
         if room == 0 || room > 65_536 {
             return Err(BenchFault::Room);
         }
         Ok(Bench {
-            duty,
-            rule,
+            instance,
             room,
             state: State::Empty,
         })
@@ -68,7 +57,7 @@ impl<D: Chart + Drop, R: Chart + Drop> Bench<D, R> {
 }
 
 impl<D: Chart, R: Chart> Bench<D, R> {
-    ghost use Rattle.ranked.specs.Refused.{Made};
+    ghost use Rattle.ranked.specs.Made.{Made};
     ghost use Rattle.bench.specs.Benches.{duty_on, rule_on};
     ghost use Rattle.bench.specs.Histories.{AlteredIsNotLedTo, OneTold, StateTold};
     ghost use Rattle.bench.specs.Tellings.{AskedAlike};
@@ -77,7 +66,7 @@ impl<D: Chart, R: Chart> Bench<D, R> {
     pub(crate) fn map(&self) -> RankedMap
         ensures { Made (duty_on D.Chart.meaning self.now) (rule_on R.Chart.meaning self.now) result }
     {
-        RankedMap::new(&self.duty, &self.rule).unwrap()
+        RankedMap::new(&self.instance)
     }
 
     // The work of `state`.

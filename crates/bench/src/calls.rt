@@ -3,16 +3,15 @@ ghost use Rattle.std.specs.Prelude.{◌≡◌, ◌≤◌, MatchResult};
 ghost use Rattle.bench.specs.Slips.{Fits};
 ghost use Rattle.bench.specs.Tellings.{Call};
 ghost use Rattle.bench.specs.declared.states.State.TheVariants as states;
-ghost use Rattle.fault.specs.declared.BenchFault.TheVariants as faults;
+ghost use Rattle.bench.specs.declared.faults.BenchFault.TheVariants as faults;
 
 use crate::benches::Bench;
+use crate::faults::BenchFault;
 use crate::states::{Form, State};
 use chart::Chart;
-use fault::BenchFault;
 use lasso::NO_WORD;
-use rules::{Breach, Kind};
-use search::Record;
-use slip::stems;
+use records::Record;
+use slip::{Breach, Kind, stems};
 
 // Refused by 9 where the slip has more records than a slip table for the room, or its loop place does not go with its kind.
 fn check_fit(room: usize, kind: Kind, stem: usize, records: &[Record]) -> Result<(), BenchFault>

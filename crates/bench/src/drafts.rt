@@ -3,14 +3,16 @@ ghost use Rattle.std.specs.Prelude.{[], None, ◌≡◌, ◌≤◌, ◌*◌, ℕ
 ghost use Rattle.bench.specs.Drafting.{Cleared, Wrote};
 ghost use Rattle.graph.specs.Graphs.{Graph, Bounded};
 ghost use Rattle.graph.specs.Walks.{More, Recurring};
-ghost use Rattle.rules.specs.declared.Kind.TheVariants as kinds;
-ghost use Rattle.search.specs.Surveys.{Allowed, Collected, Told};
+ghost use Rattle.slip.specs.declared.kinds.Kind.TheVariants as kinds;
+ghost use Rattle.records.specs.Sizes.{Allowed};
+ghost use Rattle.search.specs.Surveys.{Collected, Told};
 
 use crate::states::Form;
 use graph::Map;
 use lasso::NO_WORD;
-use rules::Kind;
-use search::{Record, write_lasso};
+use paths::write_lasso;
+use records::Record;
+use slip::Kind;
 
 // The letters of records, which a search leaves as they come, are cleared.
 fn clear_letters(records: &mut [Record])

@@ -5,14 +5,15 @@ ghost use Rattle.search.specs.Surveys.{Surveyed};
 
 use crate::benches::Bench;
 use crate::drafts::{write_break, write_keep};
+use crate::faults::BenchFault;
 use crate::states::{Form, State};
 use crate::verdicts::Verdict;
 use chart::Chart;
-use fault::BenchFault;
 use graph::Map;
 use lasso::NO_WORD;
-use rules::Kind;
-use search::{Findings, Record, survey};
+use records::Record;
+use search::{Findings, survey};
+use slip::Kind;
 
 // What the search says of the two charts.
 fn tell(found: Findings) -> Verdict
@@ -46,7 +47,7 @@ impl<D: Chart, R: Chart> Bench<D, R> {
     ghost use Rattle.bench.specs.Drafting.{Overrun, SearchTells};
     ghost use Rattle.bench.specs.Histories.{Law};
     ghost use Rattle.bench.specs.Tellings.{Call};
-    ghost use Rattle.fault.specs.declared.BenchFault.TheVariants as faults;
+    ghost use Rattle.bench.specs.declared.faults.BenchFault.TheVariants as faults;
 
     // Refused by 7 where `work` does not have as many records as the room, as judge would be: for who wants to know before it puts a slip.
     // It alters nothing.

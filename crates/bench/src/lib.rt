@@ -5,13 +5,15 @@ mod benches;
 mod calls;
 mod drafts;
 mod examples;
+mod faults;
 mod judging;
 mod states;
 mod verdicts;
 
 pub use benches::Bench;
 pub use examples::examples_hold;
-pub use rules::{Breach, BreakRule, KeepRule, Kind, Rule};
-pub use search::Record;
+pub use faults::BenchFault;
+pub use records::Record;
+pub use slip::{Breach, BreakRule, KeepRule, Kind, Rule};
 pub use states::{Form, State};
 pub use verdicts::Verdict;

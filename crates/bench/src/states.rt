@@ -2,9 +2,9 @@
 ghost use Rattle.std.specs.Prelude.{◌<◌, ◌≤◌, length};
 ghost use Rattle.slip.specs.Shapes.{stems};
 
-use rules::Kind;
-use search::{Extent, Record};
-use slip::Slip;
+use paths::Extent;
+use records::Record;
+use slip::{Kind, Slip};
 
 // A slip by its kind, the number of its records, which are the first of the slip table, and its loop place.
 #[derive(Clone, Copy, PartialEq, Eq, Debug)]
@@ -18,7 +18,7 @@ pub struct Form {
 impl Form {
     ghost use Rattle.std.specs.Prelude.{◌≡◌};
     ghost use Rattle.bench.specs.Slips.{handed, slip_at};
-    ghost use Rattle.rules.specs.declared.Kind.TheVariants as kinds;
+    ghost use Rattle.slip.specs.declared.kinds.Kind.TheVariants as kinds;
     ghost use Rattle.slip.specs.Certificates.{content};
 
     // That of a break slip whose records are a lasso.

@@ -2,7 +2,7 @@
 ghost use Rattle.std.specs.Prelude.{Some};
 ghost use Rattle.bench.specs.Shown.{verdict_text};
 
-use rules::Kind;
+use slip::Kind;
 use std::fmt;
 
 #[derive(Clone, Copy, PartialEq, Eq, Debug)]

@@ -1,19 +1,16 @@
-// Examples of what a bench answers and leaves, with answers worked out by hand. They stand in a crate of their own since tests
-// are proved too.
+// Examples of what a bench answers and leaves, and of verdicts. The answers were worked out by hand, or come from
+// tests/ranked_graph.py and tests/compare_verdicts.py, which finds verdicts by the effects of words on the charts. They stand in
+// a crate of their own since tests are proved too.
 #![tactic(auto)]
 
 #[cfg(test)]
-mod break_rules;
+mod audited;
 #[cfg(test)]
-mod clears;
+mod confirmed;
+#[cfg(test)]
+mod decided;
 #[cfg(test)]
 mod examples;
-#[cfg(test)]
-mod inspections;
-#[cfg(test)]
-mod judged;
-#[cfg(test)]
-mod keep_rules;
 #[cfg(test)]
 mod kinds;
 #[cfg(test)]
@@ -21,10 +18,14 @@ mod large;
 #[cfg(test)]
 mod made;
 #[cfg(test)]
+mod passed;
+#[cfg(test)]
 mod put;
 #[cfg(test)]
 mod refusals;
 #[cfg(test)]
-mod samples;
+mod rules;
 #[cfg(test)]
-mod tables;
+mod small;
+#[cfg(test)]
+mod wide;

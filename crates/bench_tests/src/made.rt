@@ -1,22 +1,7 @@
 // Benches that are made, and those that are not.
-use crate::samples::broken;
-use bench::{Bench, State};
-use chart::{Table, Union};
-use fault::BenchFault;
-use std::test::Fail;
-
-#[test]
-fn rooms(rt: HostRuntime) {
-    let cases = [
-        (0, Err(BenchFault::Room)),
-        (1, Ok(State::Empty)),
-        (65536, Ok(State::Empty)),
-        (65537, Err(BenchFault::Room)),
-    ];
-    for (room, said) in cases {
-        assert_eq!(rt; broken(room).map(|bench| bench.state()), said, "{room}");
-    }
-}
+use bench::{Bench, BenchFault, State};
+use chart::Table;
+use ranked::InstanceFault;
 
 // What is said of a duty of 7 states and 2 letters, and a rule of so many states and letters.
 fn said(states: u8, letters: u8, room: usize) -> Result<State, BenchFault> {
@@ -26,29 +11,26 @@ fn said(states: u8, letters: u8, room: usize) -> Result<State, BenchFault> {
     Bench::new(duty, rule, room).map(|bench| bench.state())
 }
 
-// 5 comes before 6, and 6 before 7.
+// A room is of 1 to 65,536 nodes. 5 comes before 6, and 6 before 7.
 #[test]
-fn order(rt: HostRuntime) {
-    assert_eq!(rt; said(7, 3, 0), Err(BenchFault::Letters));
-    assert_eq!(rt; said(7, 1, 1), Err(BenchFault::Letters));
-    assert_eq!(rt; said(6, 3, 0), Err(BenchFault::Letters));
-    assert_eq!(rt; said(6, 1, 1), Err(BenchFault::Letters));
-    assert_eq!(rt; said(7, 2, 0), Err(BenchFault::States));
-    assert_eq!(rt; said(7, 2, 1), Err(BenchFault::States));
-    assert_eq!(rt; said(6, 2, 0), Err(BenchFault::Room));
-    assert_eq!(rt; said(6, 2, 1), Ok(State::Empty));
-}
-
-// A union of 3 and 3 states is a rule, and one of 3 and 4 states is none.
-#[test]
-fn unions(rt: HostRuntime) -> Result<(), Fail> {
-    let rows = [0; 4];
-    let duty = Table::new(1, 1, 0b1, 0b1, &rows)?;
-    let three = Table::new(3, 1, 0b1, 0b1, &rows)?;
-    let four = Table::new(4, 1, 0b1, 0b1, &rows)?;
-    let six = Bench::new(duty, Union::new(three, three)?, 1);
-    assert_eq!(rt; six.map(|bench| bench.state()), Ok(State::Empty));
-    let seven = Bench::new(duty, Union::new(three, four)?, 1);
-    assert_eq!(rt; seven.map(|bench| bench.state()), Err(BenchFault::States));
-    Ok(())
+fn rooms_and_order(rt: HostRuntime) {
+    let letters = Err(BenchFault::Instance(InstanceFault::Letters));
+    let states = Err(BenchFault::Instance(InstanceFault::States));
+    let cases = [
+        (6, 2, 1, Ok(State::Empty)),
+        (6, 2, 65536, Ok(State::Empty)),
+        (6, 2, 0, Err(BenchFault::Room)),
+        (6, 2, 65537, Err(BenchFault::Room)),
+        (7, 2, 1, states),
+        (7, 2, 0, states),
+        (6, 3, 1, letters),
+        (7, 1, 0, letters),
+    ];
+    for (of_rule, of_letters, room, told) in cases {
+        assert_eq!(rt;
+            said(of_rule, of_letters, room),
+            told,
+            "{of_rule} {of_letters} {room}"
+        );
+    }
 }

@@ -1,6 +1,7 @@
 -- What each kind of chart means.
-use Rattle.std.specs.Prelude.{◌≡◌, ℕ, ◌+◌, ◌-◌, ◌*◌, ◌/◌, ◌%◌, ◌^◌, ◌≤◌, Bool, false, ◌&&◌, ◌||◌, List, ◌==◌, nat_le, nat_lt, slice_index}
+use Rattle.std.specs.Prelude.{◌≡◌, ℕ, ◌+◌, ◌-◌, ◌*◌, ◌≤◌, ◌&&◌, ◌||◌, List, nat_le, nat_lt, slice_index}
 use Rattle.chart.specs.Automata.{Automaton}
+use Rattle.numbers.specs.Bits.{bit}
 
 -- The automaton with n states and k letters that agrees with m there, and says no outside.
 abbrev pub fitted : ℕ → ℕ → Automaton → Automaton
@@ -13,28 +14,20 @@ fitted n k m =
       step = λ p i q. nat_lt p n && (nat_lt i k && (nat_lt q n && m.step p i q));
     }
 
--- q is a member of the set that the bits of x are, bit 0 the lowest
-abbrev pub bit : ℕ → ℕ → Bool
-bit x q = x / 2 ^ q % 2 == 1
-
--- the set has no member at or beyond n
-abbrev pub Below : ℕ → ℕ → Type 0
-Below n x = (q : ℕ) → n ≤ q → bit x q ≡ false
-
--- Sets of starts and marks, and for each state p and letter i the set of the states that p steps to, as row p * k + i.
-abbrev pub rowwise : ℕ → ℕ → ℕ → ℕ → List ℕ → Automaton
-rowwise n k starts marks rows =
+-- Sets of starts and marks, and for each state p and letter i the set of the states that p steps to, as row p * stride + i.
+abbrev pub rowwise : ℕ → ℕ → ℕ → ℕ → ℕ → List ℕ → Automaton
+rowwise n k stride starts marks rows =
     record {
       states = n;
       letters = k;
       start = bit starts;
       mark = bit marks;
-      step = λ p i q. bit (slice_index rows (p * k + i)) q;
+      step = λ p i q. nat_lt i k && bit (slice_index rows (p * stride + i)) q;
     }
 
 -- What a table chart means: bits at or beyond the number of states are ignored.
 abbrev pub table : ℕ → ℕ → ℕ → ℕ → List ℕ → Automaton
-table n k starts marks rows = fitted n k (rowwise n k starts marks rows)
+table n k starts marks rows = fitted n k (rowwise n k k starts marks rows)
 
 -- The union: the states of a, then those of b; starts, marks and steps are those of both, and none goes across.
 abbrev pub union : Automaton → Automaton → Automaton

@@ -2,13 +2,15 @@
 ghost use Rattle.std.specs.Prelude.{◌≡◌, ◌+◌, ◌*◌, ◌<◌, ◌≤◌, ◌&&◌, length, MatchResult, nat_lt, slice_index};
 ghost use Rattle.chart.specs.Automata.{Allowed};
 ghost use Rattle.chart.specs.Fits.{fitted_limits};
-ghost use Rattle.chart.specs.Kinds.{bit, table, rowwise};
+ghost use Rattle.chart.specs.Kinds.{table, rowwise};
 ghost use Rattle.chart.specs.Refused.{TableRefused};
 ghost use Rattle.chart.specs.Meanings.{table_of};
+ghost use Rattle.numbers.specs.Bits.{bit};
 
 use crate::interface::Chart;
 use crate::sizes::Size;
 use fault::ChartFault;
+use numbers::contains;
 
 #[derive(Clone, Copy)]
 pub struct Table<'a> {
@@ -21,7 +23,7 @@ pub struct Table<'a> {
 impl<'a> Chart for Table<'a> {
     ghost meaning = { table_of };
 
-    ghost limits = { λ t. fitted_limits t.size.states t.size.letters (rowwise t.size.states t.size.letters t.starts t.marks t.rows.now) t.size.allowed };
+    ghost limits = { λ t. fitted_limits t.size.states t.size.letters (rowwise t.size.states t.size.letters t.size.letters t.starts t.marks t.rows.now) t.size.allowed };
 
     fn states(&self) -> u8 {
         self.size.states
@@ -40,12 +42,15 @@ impl<'a> Chart for Table<'a> {
     }
 
     fn has_step(&self, p: u8, i: u8, q: u8) -> bool {
-        self.size.admits(p, i, q) && contains(self.row(p, i), q)
+        self.size.admits(p, i, q) && contains(self.row(p, i), q as u64)
     }
 }
 
 impl<'a> Table<'a> {
-    // Refused by 4 where the numbers leave the limits of charts, then by 3 where the rows are fewer than states times letters.
+    // A chart of 1 to 32 states and 1 to 16 letters, with sets of starts and marks and, as row p * letters + i, the set of the states
+    // that state p steps to by letter i: bit q stands for state q, and bits at or beyond the states are ignored. The rows are only read.
+    //
+    // Refused by 4 where the numbers leave these limits, then by 3 where the rows are fewer than states times letters.
     pub fn new(
         states: u8,
         letters: u8,
@@ -71,7 +76,7 @@ impl<'a> Table<'a> {
     fn has(&self, set: u32, q: u8) -> bool
         ensures { result ≡ nat_lt q self.now.size.states && bit set q }
     {
-        q < self.size.states && contains(set, q)
+        q < self.size.states && contains(set, q as u64)
     }
 
     // The row of state p and letter i; past the rows no state is stepped to.
@@ -81,12 +86,4 @@ impl<'a> Table<'a> {
         let at = p as usize * self.size.letters as usize + i as usize;
         self.rows.get(at).copied().unwrap_or(0)
     }
-}
-
-// Is q a member of the set that the bits are, bit 0 the lowest?
-fn contains(set: u32, q: u8) -> bool
-    requires { q < 32 }
-    ensures { result ≡ bit set q }
-{
-    (set >> q) % 2 == 1
 }

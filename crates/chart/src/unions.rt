@@ -62,7 +62,8 @@ impl<A: Chart + Drop, B: Chart + Drop> Union<A, B> {
     ghost use Rattle.chart.specs.Refused.{UnionRefused};
     ghost use Rattle.chart.specs.Meanings.{union_of};
 
-    // Refused by 4 where the letters differ or there are more than 32 states.
+    // Both charts side by side. Refused by 4 where their letters differ or they have more than 32 states together; a refusal lets the
+    // charts go.
     pub fn new(first: A, second: B) -> Result<Union<A, B>, ChartFault>
         ensures { MatchResult result (λ u. Unites (A.Chart.meaning first) (B.Chart.meaning second) × (union_of A.Chart.meaning B.Chart.meaning u ≡ union (A.Chart.meaning first) (B.Chart.meaning second))) (UnionRefused (A.Chart.meaning first) (B.Chart.meaning second)) }
     {

@@ -3,7 +3,7 @@ use Rattle.std.proofs.Common.{◌≡◌, ℕ, ◌+◌, ◌^◌, ◌<◌, ◌≤�
 use Rattle.std.proofs.lemmas.Bool.{cases_lt}
 use Rattle.std.specs.Option.{SomeIff}
 use Rattle.graph.specs.Graphs.{Graph, Bounded}
-use Rattle.graph.specs.Least.{Least}
+use Rattle.numbers.specs.Least.{Least}
 use Rattle.graph.specs.declared.implicit.ImplicitGraph.{ImplicitGraph}
 use Rattle.graph.specs.declared.implicit.Nodes.{Nodes}
 use Rattle.graph.specs.declared.implicit.Nodes.TheVariants.{Starts, Successors}

@@ -1,7 +1,10 @@
--- Where few places hold every reachable node, of more reachable nodes two are the same, and so not more are reachable.
-use Rattle.std.proofs.Common.{◌≡◌, ℕ, ◌<◌, ◌≤◌, ◌⊎◌, sym, ap, ◌∙◌, inl, inr, arith}
+-- Where few places hold every reachable node, of more reachable nodes two are the same, and so not more are reachable. Where they
+-- hold different ones, and not all, more are.
+use Rattle.std.proofs.Common.{◌≡◌, ℕ, ◌<◌, ◌≤◌, ◌⊎◌, sym, refl, ap, ◌∙◌, subst, inl, inr, arith}
 use Rattle.std.proofs.lemmas.Bool.{cases_lt}
+use Rattle.numbers.specs.Puts.{put}
 use Rattle.numbers.proofs.Pigeonhole.{pigeonhole, Twice}
+use Rattle.numbers.proofs.Puts.{by_place, put_same, put_other}
 use Rattle.graph.specs.Graphs.{Graph}
 use Rattle.graph.specs.Walks.{Reach, More}
 
@@ -32,3 +35,26 @@ module _ (g : Graph) (n count : ℕ) (node : ℕ → ℕ) (few : count ≤ n) (w
   not_more more =
       let (i, j, lt, le, same) = same_twice more.at more.reached in
       omega (arith, more.apart i j (omega arith) le same)
+
+-- so many places hold different reachable nodes, and one node more is reachable
+module _ (g : Graph) (n v : ℕ) (node : ℕ → ℕ) (apart : (i j : ℕ) → i < n → j < n → node i ≡ node j → i ≡ j)
+    (reached : (i : ℕ) → i < n → Reach g (node i)) (other : Reach g v) (new : (i : ℕ) → i < n → node i ≡ v → ⊥) where
+  pub one_more : More g n
+  one_more =
+      record {
+        at = put node n v;
+        apart =
+            λ i j hi hj. by_place (λ i. i ≤ n → put node n v i ≡ put node n v j → i ≡ j) n i
+            (λ hi. by_place (λ j. j ≤ n → put node n v n ≡ put node n v j → n ≡ j) n j (λ hj e. refl)
+            (λ ne hj e. absurd
+            (new j (omega arith) (sym (put_other node n v j ne) ∙ (sym e ∙ put_same node n v)))) hj)
+            (λ ni hi. by_place (λ j. j ≤ n → put node n v i ≡ put node n v j → i ≡ j) n j
+            (λ hj e. absurd
+            (new i (omega arith) (sym (put_other node n v i ni) ∙ (e ∙ put_same node n v))))
+            (λ nj hj e. apart i j (omega arith) (omega arith)
+            (sym (put_other node n v i ni) ∙ (e ∙ put_other node n v j nj))) hj) hi;
+        reached =
+            λ i. by_place (λ i. i ≤ n → Reach g (put node n v i)) n i
+            (λ hi. subst (λ x. Reach g x) (sym (put_same node n v)) other)
+            (λ ne hi. subst (λ x. Reach g x) (sym (put_other node n v i ne)) (reached i (omega arith)));
+      }

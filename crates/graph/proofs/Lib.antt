@@ -1,7 +1,6 @@
 pub mod Counting
 pub mod Loops
 pub mod Paths
-pub mod Finding
 pub mod Unrolled
 pub mod Falling
 pub mod Rounds

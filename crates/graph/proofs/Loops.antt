@@ -3,6 +3,7 @@
 -- where its nodes are few it has a short one.
 use Rattle.std.proofs.Common.{◌≡◌, ℕ, zero, suc, ◌+◌, ◌-◌, ◌*◌, ◌<◌, ◌≤◌, true, cond, ltb, sym, refl, ap, ◌∙◌, subst, ⊎_elim, arith}
 use Rattle.std.proofs.lemmas.Bool.{cases_lt, cond-true, cond-false, lt-ltb, le-ltb}
+use Rattle.numbers.specs.Returning.{Return}
 use Rattle.graph.specs.Graphs.{Graph}
 use Rattle.graph.specs.Walks.{Edge, Reach, begin, go, here, next, Path, MarkedCycle}
 use Rattle.graph.proofs.Counting.{Placed, same_twice}
@@ -20,17 +21,13 @@ pub record Trail (g : Graph) (v n w : ℕ) : Type 0 where
   pub ends : at n ≡ w
   pub edges : (k : ℕ) → k < n → Goes g at by k
 
--- a trail from a start to place `to`, where it is at the node of place `from`, with a marked node between them
+-- a trail from a start that comes back to one of its nodes, past a marked one
 pub record Loop (g : Graph) : Type 0 where
   pub at : ℕ → ℕ
   pub by : ℕ → ℕ
-  pub from : ℕ
-  pub to : ℕ
   pub starts : g.start (at 0) ≡ true
-  pub edges : (k : ℕ) → k < to → Goes g at by k
-  pub goes : from < to
-  pub closes : at from ≡ at to
-  pub passes : (k : ℕ) × (from ≤ k) × (k < to) × (g.marked (at k) ≡ true)
+  pub back : Return at (λ k. g.marked (at k) ≡ true) 0 1
+  pub edges : (k : ℕ) → k < back.to → Goes g at by k
 
 module _ (g : Graph) where
   move : {a b c d l m : ℕ} → a ≡ b → l ≡ m → c ≡ d → (l < g.letters) × (g.edge a l c ≡ true) → (m < g.letters) × (g.edge b m d ≡ true)
@@ -134,20 +131,25 @@ module _ (g : Graph) where
       (cases_lt n V)
 
   -- a trail from a start, an edge, and a trail back make a loop
-  looped : {s v u m n : ℕ} → g.start s ≡ true → g.marked v ≡ true → Trail g s m v → Edge g v u → Trail g u n v → (l : Loop g) × (l.to ≡ m + (1 + n))
+  looped : {s v u m n : ℕ} → g.start s ≡ true → g.marked v ≡ true → Trail g s m v → Edge g v u → Trail g u n v → (l : Loop g) × (l.back.to ≡ m + (1 + n))
   looped {v = v} {m = m} {n = n} start mark t e back =
       let all = join t (join (one e) back) in
       let there : all.at m ≡ v = join_seam t (join (one e) back) in (
         record {
           at = all.at;
           by = all.by;
-          from = m;
-          to = m + (1 + n);
           starts = rw all.begins start;
+          back =
+              record {
+                from = m;
+                to = m + (1 + n);
+                late = omega arith;
+                goes = omega arith;
+                apart = (1 + n, omega arith);
+                closes = there ∙ sym all.ends;
+                passes = (m, omega arith, omega arith, rw there mark);
+              };
           edges = all.edges;
-          goes = omega arith;
-          closes = there ∙ sym all.ends;
-          passes = (m, omega arith, omega arith, rw there mark);
         },
         refl,
       )
@@ -159,7 +161,7 @@ module _ (g : Graph) where
       (looped t.2 r.marked t.3 r.cycle.1 back.1).0
 
   -- where V places hold every reachable node, each of the two trails is cut to fewer than V edges
-  pub cycle_short_loop : (V : ℕ) (node : ℕ → ℕ) → Placed g V node → MarkedCycle g → (l : Loop g) × (l.to < 2 * V)
+  pub cycle_short_loop : (V : ℕ) (node : ℕ → ℕ) → Placed g V node → MarkedCycle g → (l : Loop g) × (l.back.to < 2 * V)
   cycle_short_loop V node whole (v, r) =
       let t = reach_trail r.reached in
       let back = path_trail r.cycle.2 in
@@ -176,16 +178,16 @@ module _ (g : Graph) where
 
   pub loop_cycle : Loop g → MarkedCycle g
   loop_cycle l =
-      let k = l.passes.0 in
-      let low : l.from ≤ k = l.passes.1 in
-      let high : k < l.to = l.passes.2 in
+      let k = l.back.passes.0 in
+      let low : l.back.from ≤ k = l.back.passes.1 in
+      let high : k < l.back.to = l.back.passes.2 in
       let e = l.edges k high in
-      let onward = path_along l.at l.by (l.to - suc k) (suc k) l.to (omega arith) l.edges in
-      let back = path_along l.at l.by (k - l.from) l.from k (omega arith) (λ i h. l.edges i (omega arith)) in (
+      let onward = path_along l.at l.by (l.back.to - suc k) (suc k) l.back.to (omega arith) l.edges in
+      let back = path_along l.at l.by (k - l.back.from) l.back.from k (omega arith) (λ i h. l.edges i (omega arith)) in (
         l.at k,
         record {
           reached = reach_along l.at l.by (begin l.starts) k (λ i h. l.edges i (omega arith));
-          marked = l.passes.3;
-          cycle = (l.at (suc k), (l.by k, e.0, e.1), path_join g (l.at k) onward (subst (λ x. Path g x (l.at k)) l.closes back));
+          marked = l.back.passes.3;
+          cycle = (l.at (suc k), (l.by k, e.0, e.1), path_join g (l.at k) onward (subst (λ x. Path g x (l.at k)) l.back.closes back));
         },
       )

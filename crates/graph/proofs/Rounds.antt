@@ -2,11 +2,13 @@
 -- automaton that closes whole laps later.
 use Rattle.std.proofs.Common.{◌≡◌, ℕ, zero, suc, ◌+◌, ◌-◌, ◌*◌, ◌/◌, ◌%◌, ◌<◌, ◌≤◌, true, sym, ap, ◌∙◌, subst, arith}
 use Rattle.std.proofs.lemmas.Nat.{div-mul-add, mod-mul-add}
+use Rattle.numbers.proofs.Returning.{carried}
 use Rattle.chart.specs.Automata.{Automaton}
 use Rattle.graph.specs.Graphs.{Graph}
 use Rattle.graph.specs.Walks.{MarkedCycle}
 use Rattle.graph.proofs.Loops.{Loop, cycle_loop}
 use Rattle.lasso.specs.Positions.{place, after}
+use Rattle.lasso.specs.Words.{Returns}
 use Rattle.lasso.proofs.Places.{place_apart, place_next, place_same, place_zero}
 
 -- the node of state q at position k, in a lasso of n elements with a stem of j
@@ -32,28 +34,22 @@ pub record GoesAlong (g : Graph) (m : Automaton) (word : ℕ → ℕ) (n j : ℕ
       (v l w : ℕ) → g.edge v l w ≡ true
       → (l ≡ word (v / 32)) × (w / 32 ≡ after n j (v / 32)) × (m.step (v % 32) l (w % 32) ≡ true)
 
--- a run of m from a start that closes whole laps later, past a marked state
+-- a run of m from a start that comes back whole laps later, past a marked state
 pub record Round (m : Automaton) (word : ℕ → ℕ) (n j : ℕ) : Type 0 where
   pub run : ℕ → ℕ
-  pub from : ℕ
-  pub to : ℕ
   pub starts : m.start (run 0) ≡ true
-  pub steps : (k : ℕ) → k < to → m.step (run k) (word (place n j k)) (run (suc k)) ≡ true
-  pub in_loop : j ≤ from
-  pub goes : from < to
-  pub laps : (c : ℕ) × (to - from ≡ c * (n - j))
-  pub closes : run from ≡ run to
-  pub passes : (k : ℕ) × (from ≤ k) × (k < to) × (m.mark (run k) ≡ true)
+  pub back : Returns m run j (n - j)
+  pub steps : (k : ℕ) → k < back.to → m.step (run k) (word (place n j k)) (run (suc k)) ≡ true
 
 module _ (g : Graph) (m : Automaton) (word : ℕ → ℕ) (n j : ℕ) (h : j < n) (a : GoesAlong g m word n j) where
   -- a loop passes the places in their order
-  loop_place : (l : Loop g) (k : ℕ) → k ≤ l.to → l.at k / 32 ≡ place n j k
+  loop_place : (l : Loop g) (k : ℕ) → k ≤ l.back.to → l.at k / 32 ≡ place n j k
   loop_place l zero _ = (a.starts (l.at 0) l.starts).0 ∙ sym (place_zero n j h)
   loop_place l (suc k) low =
       let e = a.edges (l.at k) (l.by k) (l.at (suc k)) (l.edges k (omega arith)).1 in
       e.1 ∙ (ap (after n j) (loop_place l k (omega arith)) ∙ sym (place_next n j k h))
 
-  loop_step : (l : Loop g) (k : ℕ) → k < l.to → m.step (l.at k % 32) (word (place n j k)) (l.at (suc k) % 32) ≡ true
+  loop_step : (l : Loop g) (k : ℕ) → k < l.back.to → m.step (l.at k % 32) (word (place n j k)) (l.at (suc k) % 32) ≡ true
   loop_step l k low =
       let e = a.edges (l.at k) (l.by k) (l.at (suc k)) (l.edges k low).1 in
       let same : l.by k ≡ word (place n j k) = e.0 ∙ ap word (loop_place l k (omega arith)) in
@@ -62,18 +58,14 @@ module _ (g : Graph) (m : Automaton) (word : ℕ → ℕ) (n j : ℕ) (h : j < n
   pub cycle_round : MarkedCycle g → Round m word n j
   cycle_round c =
       let l = cycle_loop g c in
-      let e : place n j l.from ≡ place n j l.to =
-      sym (loop_place l l.from (omega (arith, l.goes))) ∙ (ap (λ v. v / 32) l.closes ∙ loop_place l l.to (omega arith)) in
-      let laps = place_same n j l.from l.to h l.goes e in
+      let e : place n j l.back.from ≡ place n j l.back.to =
+      sym (loop_place l l.back.from (omega (arith, l.back.goes))) ∙ (ap (λ v. v / 32) l.back.closes ∙ loop_place l l.back.to (omega arith)) in
+      let laps = place_same n j l.back.from l.back.to h l.back.goes e in
       record {
         run = λ k. l.at k % 32;
-        from = l.from;
-        to = l.to;
         starts = (a.starts (l.at 0) l.starts).1;
+        back =
+            carried l.back (λ k. l.at k % 32) (λ k. m.mark (l.at k % 32) ≡ true) j (n - j) laps.0 laps.1 (ap (λ v. v % 32) l.back.closes)
+            (λ k h. a.marks (l.at k));
         steps = loop_step l;
-        in_loop = laps.0;
-        goes = l.goes;
-        laps = laps.1;
-        closes = ap (λ v. v % 32) l.closes;
-        passes = (l.passes.0, l.passes.1, l.passes.2, a.marks (l.at l.passes.0) l.passes.3);
       }

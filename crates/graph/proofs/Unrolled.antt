@@ -24,33 +24,28 @@ module _ (g : Graph) (b : Bounded g) where
   pub walk_cycle : (n : ℕ) → ((v : ℕ) → g.node v ≡ true → v < n) → (at by : ℕ → ℕ) → EndlessWalk g at by → MarkedCycle g
   walk_cycle n few at by w =
       let e = λ (k : ℕ). b.edges (at k) (by k) (at (suc k)) (w.edges k) in
-      let r = returns n at (λ k. few (at k) (e k).0) (λ i. g.marked (at i) ≡ true) w.again 0 1 (omega arith) in
       loop_cycle g (record {
         at = at;
         by = by;
-        from = r.from;
-        to = r.to;
         starts = w.starts;
+        back = returns n at (λ k. few (at k) (e k).0) (λ i. g.marked (at i) ≡ true) w.again 0 1 (omega arith);
         edges = λ k h. ((e k).1, w.edges k);
-        goes = r.goes;
-        closes = r.closes;
-        passes = r.passes;
       })
 
 -- a loop is a lasso of its nodes
-pub loop_lasso : (g : Graph) (l : Loop g) → MarkedLasso g l.at l.by l.to l.from
+pub loop_lasso : (g : Graph) (l : Loop g) → MarkedLasso g l.at l.by l.back.to l.back.from
 loop_lasso g l =
     record {
-      loops = l.goes;
+      loops = l.back.goes;
       starts = l.starts;
       steps =
           λ k h. ⊎_elim
-          (λ (inner : suc k < l.to). rw (after_next l.to l.from k inner) (l.edges k h).1)
-          (λ (outer : l.to ≤ suc k). let e : suc k ≡ l.to = omega arith in
-          let s : l.at (suc k) ≡ l.at l.from = ap l.at e ∙ sym l.closes in
-          rw (after_last l.to l.from k outer) (subst (λ v. g.edge (l.at k) (l.by k) v ≡ true) s (l.edges k h).1))
-          (cases_lt (suc k) l.to);
-      passes = l.passes;
+          (λ (inner : suc k < l.back.to). rw (after_next l.back.to l.back.from k inner) (l.edges k h).1)
+          (λ (outer : l.back.to ≤ suc k). let e : suc k ≡ l.back.to = omega arith in
+          let s : l.at (suc k) ≡ l.at l.back.from = ap l.at e ∙ sym l.back.closes in
+          rw (after_last l.back.to l.back.from k outer) (subst (λ v. g.edge (l.at k) (l.by k) v ≡ true) s (l.edges k h).1))
+          (cases_lt (suc k) l.back.to);
+      passes = l.back.passes;
     }
 
 -- a lasso goes on for ever, and passes its marked node once each lap
@@ -72,35 +67,35 @@ module _ (g : Graph) (node by : ℕ → ℕ) (count stem : ℕ) (m : MarkedLasso
 module _ (g : Graph) (l : Loop g) where
   -- the letters by which a loop goes
   pub loop_word : List ℕ
-  loop_word = map l.by (range_with_len 0 l.to)
+  loop_word = map l.by (range_with_len 0 l.back.to)
 
-  pub word_length : length loop_word ≡ l.to
+  pub word_length : length loop_word ≡ l.back.to
   unfolding loop_word
-  word_length = length-map-range_with_len l.by 0 l.to
+  word_length = length-map-range_with_len l.by 0 l.back.to
 
-  pub word_letter : (k : ℕ) → k < l.to → get_or loop_word k 0 ≡ l.by k
+  pub word_letter : (k : ℕ) → k < l.back.to → get_or loop_word k 0 ≡ l.by k
   unfolding loop_word
-  word_letter k h = get_or-map-range_with_len l.by 0 l.to k k 0 h (omega arith)
+  word_letter k h = get_or-map-range_with_len l.by 0 l.back.to k k 0 h (omega arith)
 
   -- up to its end the word has them at the same positions
-  pub position_letter : (k : ℕ) → k < l.to → letter loop_word l.from k ≡ l.by k
+  pub position_letter : (k : ℕ) → k < l.back.to → letter loop_word l.back.from k ≡ l.by k
   position_letter k h =
       let inside : k < length loop_word = rw word_length h in
-      rw (place_first (length loop_word) l.from k inside) (word_letter k h)
+      rw (place_first (length loop_word) l.back.from k inside) (word_letter k h)
 
   pub word_known : (k : ℕ) → k < length loop_word → get_or loop_word k 0 < g.letters
-  word_known k h = let low : k < l.to = rw word_length at h in rw (word_letter k low) (l.edges k low).0
+  word_known k h = let low : k < l.back.to = rw word_length at h in rw (word_letter k low) (l.edges k low).0
 
   -- a short loop's word is within the limits of words
-  pub word_good : l.to ≤ 131072 → IsWord g.letters loop_word l.from
+  pub word_good : l.back.to ≤ 131072 → IsWord g.letters loop_word l.back.from
   word_good few =
       record {
-        lasso = rw word_length (record { some_elements = omega (arith, l.goes); few_elements = few; loops = l.goes });
+        lasso = rw word_length (record { some_elements = omega (arith, l.back.goes); few_elements = few; loops = l.back.goes });
         known = word_known;
       }
 
   -- so it is a lasso of the graph by the letters of its word
-  pub word_lasso : MarkedLasso g l.at (λ k. get_or loop_word k 0) (length loop_word) l.from
+  pub word_lasso : MarkedLasso g l.at (λ k. get_or loop_word k 0) (length loop_word) l.back.from
   word_lasso =
       let m = loop_lasso g l in
       rw word_length (record {

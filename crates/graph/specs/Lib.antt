@@ -1,5 +1,4 @@
 pub mod Graphs
-pub mod Least
 pub mod Walks
 pub mod Witnesses
 pub mod Implicit

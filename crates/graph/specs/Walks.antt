@@ -6,6 +6,10 @@ use Rattle.graph.specs.Graphs.{Graph}
 abbrev pub Edge : Graph → ℕ → ℕ → Type 0
 Edge g v w = (l : ℕ) × (l < g.letters) × (g.edge v l w ≡ true)
 
+-- v leads to w by a letter below l
+abbrev pub ByLetters : Graph → ℕ → ℕ → ℕ → Type 0
+ByLetters g v l w = (k : ℕ) × (k < l) × (g.edge v k w ≡ true)
+
 -- v is a start, or edges lead to it from one
 pub data Reach (g : Graph) : ℕ → Type 0 where
   begin : {v : ℕ} → g.start v ≡ true → Reach g v

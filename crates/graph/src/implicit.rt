@@ -1,6 +1,6 @@
 // The graph that a map answers for, which is stored nowhere.
 ghost use Rattle.std.specs.Prelude.{◌≡◌, true, Some, Decides};
-ghost use Rattle.graph.specs.Least.{Least};
+ghost use Rattle.numbers.specs.Least.{Least};
 
 use crate::Map;
 use lasso::Word;

@@ -5,7 +5,7 @@ mod implicit;
 
 ghost use Rattle.std.specs.Prelude.{◌≡◌, ℕ, List};
 ghost use Rattle.graph.specs.Graphs.{Graph, Bounded};
-ghost use Rattle.graph.specs.Least.{Least};
+ghost use Rattle.numbers.specs.Least.{Least};
 
 pub use implicit::{ImplicitGraph, Nodes, Rising};
 use lasso::Word;

@@ -12,39 +12,39 @@ use Rattle.lasso.proofs.Returning.{runs_return}
 module _ (m : Automaton) (word : List ℕ) (stem : ℕ) (h : stem < length word) (t : Takes m word stem) where
   -- where the run of position k stands
   spot : ℕ → ℕ
-  spot k = place t.to t.from k
+  spot k = place t.back.to t.back.from k
 
   -- there the word has the same letter
   spot_letter : (k : ℕ) → letter word stem (spot k) ≡ letter word stem k
   unfolding spot
   spot_letter k =
-      ap (λ x. get_or word x 0) (place_unrolled (length word) stem t.from t.to t.laps.0 k h t.in_loop t.goes t.laps.1)
+      ap (λ x. get_or word x 0) (place_unrolled (length word) stem t.back.from t.back.to t.back.apart.0 k h t.back.late t.back.goes t.back.apart.1)
 
   -- and the next state is that of the next spot
   spot_next : (k : ℕ) → t.run (suc (spot k)) ≡ t.run (spot (suc k))
   unfolding spot
   spot_next k =
-      let e = place_next t.to t.from k t.goes in
-      ⊎_elim (λ (inner : suc (spot k) < t.to). ap t.run (sym (e ∙ after_next t.to t.from (spot k) inner)))
-      (λ (outer : t.to ≤ suc (spot k)).
-      let last : suc (spot k) ≡ t.to = omega (arith, place_below t.to t.from k t.goes) in
-      ap t.run last ∙ (sym t.closes ∙ ap t.run (sym (e ∙ after_last t.to t.from (spot k) outer))))
-      (cases_lt (suc (spot k)) t.to)
+      let e = place_next t.back.to t.back.from k t.back.goes in
+      ⊎_elim (λ (inner : suc (spot k) < t.back.to). ap t.run (sym (e ∙ after_next t.back.to t.back.from (spot k) inner)))
+      (λ (outer : t.back.to ≤ suc (spot k)).
+      let last : suc (spot k) ≡ t.back.to = omega (arith, place_below t.back.to t.back.from k t.back.goes) in
+      ap t.run last ∙ (sym t.back.closes ∙ ap t.run (sym (e ∙ after_last t.back.to t.back.from (spot k) outer))))
+      (cases_lt (suc (spot k)) t.back.to)
 
-  spot_below : (k : ℕ) → spot k < t.to
+  spot_below : (k : ℕ) → spot k < t.back.to
   unfolding spot
-  spot_below k = place_below t.to t.from k t.goes
+  spot_below k = place_below t.back.to t.back.from k t.back.goes
 
   -- so many laps later the run passes its marked state again
   spot_again : (k : ℕ) → (i : ℕ) × (k ≤ i) × (m.mark (t.run (spot i)) ≡ true)
   unfolding spot
   spot_again k =
-      let q = t.passes.0 in
-      let loop = t.to - t.from in
-      let far : k ≤ k * loop = le-mul_of_pos_right k (omega (arith, t.goes)) in
+      let q = t.back.passes.0 in
+      let loop = t.back.to - t.back.from in
+      let far : k ≤ k * loop = le-mul_of_pos_right k (omega (arith, t.back.goes)) in
       let e : spot (q + k * loop) ≡ q =
-      place_laps t.to t.from q k t.goes t.passes.1 ∙ place_first t.to t.from q t.passes.2 in
-      (q + k * loop, omega (arith, far), ap (λ x. m.mark (t.run x)) e ∙ t.passes.3)
+      place_laps t.back.to t.back.from q k t.back.goes t.back.passes.1 ∙ place_first t.back.to t.back.from q t.back.passes.2 in
+      (q + k * loop, omega (arith, far), ap (λ x. m.mark (t.run x)) e ∙ t.back.passes.3)
 
   spot_step : (k : ℕ) → m.step (t.run (spot k)) (letter word stem k) (t.run (spot (suc k))) ≡ true
   spot_step k =
@@ -56,25 +56,18 @@ unfolding spot
 takes_accepts m word stem h t =
     record {
       run = λ k. t.run (spot m word stem h t k);
-      starts = ap (λ x. m.start (t.run x)) (place_zero t.to t.from t.goes) ∙ t.starts;
+      starts = ap (λ x. m.start (t.run x)) (place_zero t.back.to t.back.from t.back.goes) ∙ t.starts;
       steps = spot_step m word stem h t;
       again = spot_again m word stem h t;
     }
 
 pub accepts_takes : (m : Automaton) (word : List ℕ) (stem : ℕ) → Limits m → stem < length word → Accepts m (letter word stem) → Takes m word stem
 accepts_takes m word stem limits h a =
-    let r = runs_return m (letter word stem) limits a stem (length word - stem) (omega arith) in
     record {
       run = a.run;
-      from = r.from;
-      to = r.to;
       starts = a.starts;
+      back = runs_return m (letter word stem) limits a stem (length word - stem) (omega arith);
       steps = λ k _. a.steps k;
-      in_loop = r.late;
-      goes = r.goes;
-      laps = r.apart;
-      closes = r.closes;
-      passes = r.passes;
     }
 
 pub taken_is_accepted : TakenIsAccepted

@@ -11,13 +11,4 @@ run_below m word limits a k = (limits.steps (a.run k) (word k) (a.run (suc k)) (
 
 pub runs_return : RunsReturn
 runs_return m word limits a j p h =
-    let r = returns m.states a.run (run_below m word limits a) (λ i. m.mark (a.run i) ≡ true) a.again j p h in
-    record {
-      from = r.from;
-      to = r.to;
-      late = r.late;
-      goes = r.goes;
-      apart = r.apart;
-      closes = r.closes;
-      passes = r.passes;
-    }
+    returns m.states a.run (run_below m word limits a) (λ i. m.mark (a.run i) ≡ true) a.again j p h

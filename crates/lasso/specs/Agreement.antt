@@ -1,9 +1,9 @@
 -- What is true of every lasso and every chart: how places repeat, and that to take a word is to accept it as an endless
 -- word by Büchi's condition.
-use Rattle.std.specs.Prelude.{◌≡◌, ℕ, suc, ◌+◌, ◌-◌, ◌*◌, ◌<◌, ◌≤◌, true, List, length}
+use Rattle.std.specs.Prelude.{◌≡◌, ℕ, suc, ◌+◌, ◌-◌, ◌*◌, ◌<◌, ◌≤◌, List, length}
 use Rattle.chart.specs.Automata.{Automaton, Limits}
 use Rattle.lasso.specs.Positions.{place, after}
-use Rattle.lasso.specs.Words.{letter, Takes, Accepts}
+use Rattle.lasso.specs.Words.{letter, Accepts, Returns, Takes}
 
 -- the places of a lasso of n elements with a stem of j
 pub record Repeats (n j : ℕ) : Type 0 where
@@ -17,17 +17,6 @@ pub record Repeats (n j : ℕ) : Type 0 where
 
 abbrev pub PlacesRepeat : Type 0
 PlacesRepeat = (n j : ℕ) → j < n → Repeats n j
-
--- A run comes back: at or after position j it is in one state twice, a multiple of p positions apart, and it passes a
--- marked state between.
-pub record Returns (m : Automaton) (run : ℕ → ℕ) (j p : ℕ) : Type 0 where
-  pub from : ℕ
-  pub to : ℕ
-  pub late : j ≤ from
-  pub goes : from < to
-  pub apart : (n : ℕ) × (to - from ≡ n * p)
-  pub closes : run from ≡ run to
-  pub passes : (k : ℕ) × (from ≤ k) × (k < to) × (m.mark (run k) ≡ true)
 
 abbrev pub RunsReturn : Type 0
 RunsReturn =

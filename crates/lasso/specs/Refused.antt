@@ -1,14 +1,14 @@
 -- When a lasso is refused, and which fault says so.
 use Rattle.std.specs.Prelude.{ℕ, ◌<◌, ◌≤◌, List, length, slice_index}
-use Rattle.fault.specs.declared.LassoFault.{LassoFault}
-use Rattle.fault.specs.declared.LassoFault.TheVariants.{Limits, Letter}
+use Rattle.lasso.specs.declared.faults.LassoFault.{LassoFault}
+use Rattle.lasso.specs.declared.faults.LassoFault.TheVariants.{Limits, Letter}
 use Rattle.lasso.specs.Positions.{IsLasso}
 use Rattle.lasso.specs.declared.positions.Lasso.{Lasso}
 
 -- a lasso of n elements with a stem of j
 abbrev pub LassoRefused : ℕ → ℕ → LassoFault → Type 0
 LassoRefused n j Limits = IsLasso n j → ⊥
-LassoRefused n j Letter = ⊥
+LassoRefused n j _ = ⊥
 
 -- the same of elements that are lent
 abbrev pub IsRefused : {A : Type 0} → Lasso A → LassoFault → Type 0

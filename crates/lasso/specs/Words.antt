@@ -1,7 +1,8 @@
 -- What it is for a chart to take a word that repeats, and Büchi's condition on endless words.
-use Rattle.std.specs.Prelude.{◌≡◌, ℕ, suc, ◌-◌, ◌*◌, ◌<◌, ◌≤◌, true, List, length, slice_index}
+use Rattle.std.specs.Prelude.{◌≡◌, ℕ, suc, ◌-◌, ◌<◌, ◌≤◌, true, List, length, slice_index}
 use Rattle.chart.specs.Automata.{Automaton}
 use Rattle.lasso.specs.Positions.{IsLasso, element}
+use Rattle.numbers.specs.Returning.{Return}
 
 -- the letter of a word at position k, where the word's letters from the stem's end on repeat for ever
 abbrev pub letter : List ℕ → ℕ → ℕ → ℕ
@@ -12,19 +13,18 @@ pub record IsWord (letters : ℕ) (word : List ℕ) (stem : ℕ) : Type 0 where
   pub lasso : IsLasso (length word) stem
   pub known : (k : ℕ) → k < length word → slice_index word k < letters
 
--- The automaton takes the word: a run from a start steps by the word's letters as far as position `to`, where it is in
--- the state of an earlier position `from`, whole laps of the loop before, and it passes a marked state between them.
+-- A run comes back: at or after position j it is in one state twice, a multiple of p positions apart, and it passes a
+-- marked state between.
+abbrev pub Returns : Automaton → (ℕ → ℕ) → ℕ → ℕ → Type 0
+Returns m run = Return run (λ k. m.mark (run k) ≡ true)
+
+-- The automaton takes the word: a run from a start comes back in the word's loop, whole laps of it later, past a marked state,
+-- and it steps by the word's letters as far as that.
 pub record Takes (m : Automaton) (word : List ℕ) (stem : ℕ) : Type 0 where
   pub run : ℕ → ℕ
-  pub from : ℕ
-  pub to : ℕ
   pub starts : m.start (run 0) ≡ true
-  pub steps : (k : ℕ) → k < to → m.step (run k) (letter word stem k) (run (suc k)) ≡ true
-  pub in_loop : stem ≤ from
-  pub goes : from < to
-  pub laps : (n : ℕ) × (to - from ≡ n * (length word - stem))
-  pub closes : run from ≡ run to
-  pub passes : (k : ℕ) × (from ≤ k) × (k < to) × (m.mark (run k) ≡ true)
+  pub back : Returns m run stem (length word - stem)
+  pub steps : (k : ℕ) → k < back.to → m.step (run k) (letter word stem k) (run (suc k)) ≡ true
 
 -- Büchi's condition on an endless word: an endless run from a start that passes a marked state again and again.
 pub record Accepts (m : Automaton) (word : ℕ → ℕ) : Type 0 where

@@ -2,9 +2,11 @@
 #![tactic(auto)]
 
 mod agreement;
+mod faults;
 mod positions;
 mod words;
 
 pub use agreement::{acceptance_agrees, places_repeat, runs_return};
+pub use faults::LassoFault;
 pub use positions::Lasso;
 pub use words::{NO_WORD, Word};

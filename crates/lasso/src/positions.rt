@@ -1,7 +1,7 @@
 // Lassos over lent elements: a stem and a loop that repeats for ever, by positions, which never end, and by places.
 ghost use Rattle.std.specs.Prelude.{length, MatchResult};
 
-use fault::LassoFault;
+use crate::faults::LassoFault;
 
 // Elements, of which those behind the stem repeat for ever. Any elements and stem may be asked about.
 #[derive_where(Clone, Copy)]

@@ -3,8 +3,8 @@ ghost use Rattle.std.specs.Prelude.{MatchResult};
 ghost use Rattle.lasso.specs.Refused.{WordRefused};
 ghost use Rattle.lasso.specs.Words.{IsWord};
 
+use crate::faults::LassoFault;
 use crate::positions::Lasso;
-use fault::LassoFault;
 
 pub type Word<'a> = Lasso<'a, u8>;
 

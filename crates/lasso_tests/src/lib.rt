@@ -5,5 +5,3 @@
 mod limits;
 #[cfg(test)]
 mod positions;
-#[cfg(test)]
-mod words;

@@ -1,88 +1,84 @@
-// How many elements a lasso may have, and where its loop may begin.
-use fault::{Fault, LassoFault};
-use lasso::Lasso;
-use std::alloc::{AllocError, Global};
+// How many elements a lasso may have, where its loop may begin, and which letters a word may have.
+use fault::{Fault, Refusal};
+use lasso::{LassoFault, Word};
 use std::test::Fail;
 
-// What a lasso of so many elements with such a stem is told.
-fn told(heap: Global, elements: usize, stem: usize) -> Result<Result<(), LassoFault>, AllocError> {
-    let states = vec![in heap; 7u32; elements]?;
-    let lasso = Lasso {
-        elements: states.as_slice(),
-        stem,
+const LIMITS: Option<LassoFault> = Some(LassoFault::Limits);
+
+const LETTER: Option<LassoFault> = Some(LassoFault::Letter);
+
+// What the five functions that are handed a lasso are told of a word, by a chart of so many letters.
+fn told(word: Word<'_>, letters: u8) -> [Option<LassoFault>; 5] {
+    [
+        word.check().err(),
+        word.place(0).err(),
+        word.after(0).err(),
+        word.element(0).err(),
+        word.check_letters(letters).err(),
+    ]
+}
+
+// It has 1 to 131,072 elements, and its loop has one of them at least. Every function has the same limits.
+#[test]
+fn lengths_and_loop_places(rt: HostRuntime) -> Result<(), Fail> {
+    let letters = vec![in rt.alloc(); 0u8; 131_073]?;
+    let cases = [
+        (0, 0, LIMITS),
+        (0, usize::MAX, LIMITS),
+        (1, 0, None),
+        (1, 1, LIMITS),
+        (5, 4, None),
+        (5, 5, LIMITS),
+        (5, usize::MAX, LIMITS),
+        (131_072, 0, None),
+        (131_072, 131_071, None),
+        (131_072, 131_072, LIMITS),
+        (131_073, 0, LIMITS),
+        (131_073, 131_072, LIMITS),
+    ];
+    for (count, stem, refused) in cases {
+        let elements = letters.get(..count).unwrap_or_default();
+        assert_eq!(rt;
+            told(Word { elements, stem }, 1),
+            [refused; 5],
+            "{count} {stem}"
+        );
+    }
+    Ok(())
+}
+
+// A letter that is none of the chart's is found in the stem and in the loop, at the first place and at the last. The limits are told
+// before it.
+#[test]
+fn letters(rt: HostRuntime) {
+    let cases: [(&[u8], usize, u8, Option<LassoFault>); 10] = [
+        (&[0, 2, 1], 0, 3, None),
+        (&[0, 1, 0, 2], 0, 2, LETTER),
+        (&[0, 1, 0, 2], 3, 2, LETTER),
+        (&[2, 1, 0, 1], 2, 2, LETTER),
+        (&[15], 0, 16, None),
+        (&[16], 0, 16, LETTER),
+        (&[254], 0, 255, None),
+        (&[255], 0, 255, LETTER),
+        (&[0], 0, 0, LETTER),
+        (&[9, 9], 2, 3, LIMITS),
+    ];
+    for (elements, stem, letters, refused) in cases {
+        assert_eq!(rt;
+            Word { elements, stem }.check_letters(letters).err(),
+            refused,
+            "{stem} {letters}"
+        );
+    }
+}
+
+#[test]
+fn refusals(rt: HostRuntime) {
+    let eight = Refusal {
+        number: 8,
+        place: 0,
+        rule: None,
     };
-    Ok(lasso.check())
-}
-
-// The number of a refusal, or 0: numbers are what these tests are of.
-fn number<T: Drop>(told: Result<T, LassoFault>) -> u8 {
-    told.err().map_or(0, |e| e.number())
-}
-
-// The numbers by which the four functions refuse a lasso of so many elements, or 0.
-fn numbers(heap: Global, elements: usize, stem: usize) -> Result<[u8; 4], AllocError> {
-    let letters = vec![in heap; 0u8; elements]?;
-    let word = Lasso {
-        elements: letters.as_slice(),
-        stem,
-    };
-    Ok([
-        number(word.place(0)),
-        number(word.after(0)),
-        number(word.element(0)),
-        number(word.check_letters(1)),
-    ])
-}
-
-#[test]
-fn number_of_elements(rt: HostRuntime) -> Result<(), Fail> {
-    let heap = rt.alloc();
-    assert_eq!(rt; told(heap, 0, 0)?, Err(LassoFault::Limits));
-    assert_eq!(rt; told(heap, 1, 0)?, Ok(()));
-    assert_eq!(rt; told(heap, 2, 0)?, Ok(()));
-    assert_eq!(rt; told(heap, 131_071, 0)?, Ok(()));
-    assert_eq!(rt; told(heap, 131_072, 0)?, Ok(()));
-    assert_eq!(rt; told(heap, 131_073, 0)?, Err(LassoFault::Limits));
-    assert_eq!(rt; told(heap, 262_144, 0)?, Err(LassoFault::Limits));
-    Ok(())
-}
-
-// The loop has an element at least, so its place is below the length.
-#[test]
-fn loop_place(rt: HostRuntime) -> Result<(), Fail> {
-    let heap = rt.alloc();
-    assert_eq!(rt; told(heap, 1, 1)?, Err(LassoFault::Limits));
-    assert_eq!(rt; told(heap, 5, 4)?, Ok(()));
-    assert_eq!(rt; told(heap, 5, 5)?, Err(LassoFault::Limits));
-    assert_eq!(rt; told(heap, 5, 6)?, Err(LassoFault::Limits));
-    assert_eq!(rt; told(heap, 5, usize::MAX)?, Err(LassoFault::Limits));
-    assert_eq!(rt; told(heap, 131_072, 131_071)?, Ok(()));
-    assert_eq!(rt; told(heap, 131_072, 131_072)?, Err(LassoFault::Limits));
-    assert_eq!(rt; told(heap, 131_073, 131_072)?, Err(LassoFault::Limits));
-    assert_eq!(rt; told(heap, 0, usize::MAX)?, Err(LassoFault::Limits));
-    Ok(())
-}
-
-// Every function that is handed a lasso has the same limits.
-#[test]
-fn everywhere(rt: HostRuntime) -> Result<(), Fail> {
-    let heap = rt.alloc();
-    assert_eq!(rt; numbers(heap, 0, 0)?, [8; 4]);
-    assert_eq!(rt; numbers(heap, 1, 0)?, [0; 4]);
-    assert_eq!(rt; numbers(heap, 1, 1)?, [8; 4]);
-    assert_eq!(rt; numbers(heap, 5, 4)?, [0; 4]);
-    assert_eq!(rt; numbers(heap, 5, 5)?, [8; 4]);
-    assert_eq!(rt; numbers(heap, 131_071, 0)?, [0; 4]);
-    assert_eq!(rt; numbers(heap, 131_072, 131_071)?, [0; 4]);
-    assert_eq!(rt; numbers(heap, 131_072, 131_072)?, [8; 4]);
-    assert_eq!(rt; numbers(heap, 131_073, 0)?, [8; 4]);
-    Ok(())
-}
-
-#[test]
-fn faults(rt: HostRuntime) {
-    assert_eq!(rt;
-        [LassoFault::Limits.number(), LassoFault::Letter.number()],
-        [8, 8]
-    );
+    let told = [LassoFault::Limits.refusal(), LassoFault::Letter.refusal()];
+    assert_eq!(rt; told, [eight, eight]);
 }

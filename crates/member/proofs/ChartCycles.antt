@@ -1,6 +1,7 @@
 -- A chart takes some word exactly if its own graph has a marked cycle: the word is read off a short loop.
-use Rattle.std.proofs.Common.{ℕ, suc, ◌≤◌, List, refl, arith}
+use Rattle.std.proofs.Common.{◌≡◌, ℕ, suc, ◌-◌, ◌≤◌, true, List, length, refl, arith}
 use Rattle.std.proofs.lemmas.Bool.{ltb-true}
+use Rattle.numbers.proofs.Returning.{carried, somewhere}
 use Rattle.chart.specs.Automata.{Automaton, Limits}
 use Rattle.graph.specs.Walks.{MarkedCycle, More}
 use Rattle.graph.proofs.Counting.{not_more, Placed}
@@ -14,30 +15,26 @@ use Rattle.member.specs.Maps.{chart_graph}
 use Rattle.member.specs.Questions.{TakesSome}
 
 module _ (m : Automaton) where
-  loop_takes : (l : Loop (chart_graph m)) → Takes m (loop_word (chart_graph m) l) l.from
+  loop_takes : (l : Loop (chart_graph m)) → Takes m (loop_word (chart_graph m) l) l.back.from
   loop_takes l =
       record {
         run = l.at;
-        from = l.from;
-        to = l.to;
         starts = l.starts;
+        back =
+            carried l.back l.at (λ k. m.mark (l.at k) ≡ true) l.back.from (length (loop_word (chart_graph m) l) - l.back.from) (omega arith)
+            (1, rw (word_length (chart_graph m) l) (omega arith)) l.back.closes (λ k h x. x);
         steps = λ k h. rw (position_letter (chart_graph m) l k h) (l.edges k h).1;
-        in_loop = omega arith;
-        goes = l.goes;
-        laps = (1, rw (word_length (chart_graph m) l) (omega arith));
-        closes = l.closes;
-        passes = l.passes;
       }
 
-  loop_taken : (l : Loop (chart_graph m)) → l.to ≤ 131072 → TakesSome m
+  loop_taken : (l : Loop (chart_graph m)) → l.back.to ≤ 131072 → TakesSome m
   loop_taken l few =
       let good = word_good (chart_graph m) l few in
       record {
         word = loop_word (chart_graph m) l;
-        stem = l.from;
+        stem = l.back.from;
         good = good;
         takes = loop_takes l;
-        accepts = takes_accepts m (loop_word (chart_graph m) l) l.from good.lasso.loops (loop_takes l);
+        accepts = takes_accepts m (loop_word (chart_graph m) l) l.back.from good.lasso.loops (loop_takes l);
       }
 
   -- the chart's states are the places of all nodes
@@ -54,13 +51,9 @@ module _ (m : Automaton) where
       loop_cycle (chart_graph m) (record {
         at = t.run;
         by = letter word stem;
-        from = t.from;
-        to = t.to;
         starts = t.starts;
+        back = somewhere t.back;
         edges = λ k low. ((h.steps (t.run k) (letter word stem k) (t.run (suc k)) (t.steps k low)).1, t.steps k low);
-        goes = t.goes;
-        closes = t.closes;
-        passes = t.passes;
       })
 
   -- of any endless word, whether it repeats or not

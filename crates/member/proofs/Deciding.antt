@@ -1,14 +1,15 @@
 -- What a search of a chart's maps tells of its words.
 use Rattle.std.proofs.Common.{◌≡◌, ℕ, ◌≤◌, Bool, not, List, length, is_some, Some, None, Option, sym, subst, arith}
 use Rattle.chart.specs.Automata.{Automaton, Limits}
-use Rattle.fault.specs.declared.SearchFault.{SearchFault}
-use Rattle.fault.specs.declared.SearchFault.TheVariants.{Table, Full}
+use Rattle.records.specs.declared.faults.SearchFault.{SearchFault}
+use Rattle.records.specs.declared.faults.SearchFault.TheVariants.{Table, Full}
 use Rattle.graph.specs.Walks.{More}
 use Rattle.lasso.specs.Words.{IsWord}
 use Rattle.lasso.proofs.Agreeing.{takes_accepts, accepts_takes}
-use Rattle.search.specs.declared.records.Record.{Record}
+use Rattle.records.specs.declared.record.Record.{Record}
 use Rattle.search.specs.declared.surveys.Findings.{Findings}
-use Rattle.search.specs.Surveys.{Allowed, Told, Surveyed, Refused}
+use Rattle.records.specs.Sizes.{Allowed}
+use Rattle.search.specs.Surveys.{Told, Surveyed, Refused}
 use Rattle.member.specs.Maps.{chart_graph, word_graph}
 use Rattle.member.specs.Questions.{IsEmpty, Empties, IsMember, Members}
 use Rattle.member.proofs.ChartCycles.{cycle_taken, takes_cycle, accepts_cycle, not_more_states}

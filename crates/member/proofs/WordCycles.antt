@@ -1,5 +1,6 @@
 -- A chart takes a word within its limits exactly if its graph along the word has a marked cycle.
-use Rattle.std.proofs.Common.{◌≡◌, ℕ, suc, ◌/◌, ◌%◌, ◌<◌, List, length, get_or, sym, ap, ◌∙◌, arith}
+use Rattle.std.proofs.Common.{◌≡◌, ℕ, suc, ◌-◌, ◌/◌, ◌%◌, ◌<◌, true, List, length, get_or, sym, ap, ◌∙◌, arith}
+use Rattle.numbers.proofs.Returning.{carried, somewhere}
 use Rattle.chart.specs.Automata.{Automaton, Limits}
 use Rattle.graph.specs.Walks.{MarkedCycle}
 use Rattle.graph.proofs.Loops.{Goes, loop_cycle}
@@ -23,28 +24,17 @@ module _ (m : Automaton) (word : List ℕ) (stem : ℕ) (lasso : IsLasso (length
   pub word_cycle_takes : MarkedCycle (word_graph m word stem) → Takes m word stem
   word_cycle_takes c =
       let r = cycle_round (word_graph m word stem) m (λ p. get_or word p 0) (length word) stem lasso.loops along c in
-      record {
-        run = r.run;
-        from = r.from;
-        to = r.to;
-        starts = r.starts;
-        steps = r.steps;
-        in_loop = r.in_loop;
-        goes = r.goes;
-        laps = r.laps;
-        closes = r.closes;
-        passes = r.passes;
-      }
+      record { run = r.run; starts = r.starts; back = r.back; steps = r.steps }
 
   module _ (h : Limits m) (t : Takes m word stem) where
     -- the node of position k
     at : ℕ → ℕ
     at k = spot (length word) stem k (t.run k)
 
-    run_below : (k : ℕ) → k < t.to → t.run k < m.states
+    run_below : (k : ℕ) → k < t.back.to → t.run k < m.states
     run_below k low = (h.steps (t.run k) (letter word stem k) (t.run (suc k)) (t.steps k low)).0
 
-    next_below : (k : ℕ) → k < t.to → t.run (suc k) < m.states
+    next_below : (k : ℕ) → k < t.back.to → t.run (suc k) < m.states
     next_below k low = (h.steps (t.run k) (letter word stem k) (t.run (suc k)) (t.steps k low)).2
 
     at_place : (k : ℕ) → t.run k < m.states → at k / 32 ≡ place (length word) stem k
@@ -63,7 +53,7 @@ module _ (m : Automaton) (word : List ℕ) (stem : ℕ) (lasso : IsLasso (length
           state = rw (at_state k b) b;
         }
 
-    at_edge : (k : ℕ) → k < t.to → Goes (word_graph m word stem) at (letter word stem) k
+    at_edge : (k : ℕ) → k < t.back.to → Goes (word_graph m word stem) at (letter word stem) k
     at_edge k low =
         let b = run_below k low in
         let d = next_below k low in (
@@ -76,26 +66,22 @@ module _ (m : Automaton) (word : List ℕ) (stem : ℕ) (lasso : IsLasso (length
           }),
         )
 
-    at_closes : at t.from ≡ at t.to
+    at_closes : at t.back.from ≡ at t.back.to
     unfolding at
     at_closes =
-        spot_laps (length word) stem t.from t.to t.laps.0 (t.run t.from) (t.run t.to) lasso.loops t.in_loop (omega (arith, t.goes)) t.laps.1 t.closes
+        spot_laps (length word) stem t.back.from t.back.to t.back.apart.0 (t.run t.back.from) (t.run t.back.to) lasso.loops t.back.late (omega (arith, t.back.goes)) t.back.apart.1 t.back.closes
 
     pub takes_word_cycle : MarkedCycle (word_graph m word stem)
     takes_word_cycle =
-        let start = run_below 0 (omega (arith, t.goes)) in
-        let k = t.passes.0 in
-        let mark = run_below k t.passes.2 in
+        let start = run_below 0 (omega (arith, t.back.goes)) in
         loop_cycle (word_graph m word stem) (record {
           at = at;
           by = letter word stem;
-          from = t.from;
-          to = t.to;
           starts =
               start_from m word stem (at 0) (at_node 0 start) (at_place 0 start ∙ place_zero (length word) stem lasso.loops)
               (rw (at_state 0 start) t.starts);
+          back =
+              somewhere (carried t.back at (λ k. (word_graph m word stem).marked (at k) ≡ true) stem (length word - stem) t.back.late t.back.apart at_closes
+              (λ k h x. let b = run_below k h in marked_from m word stem (at k) (at_node k b) (rw (at_state k b) x)));
           edges = at_edge;
-          goes = t.goes;
-          closes = at_closes;
-          passes = (k, t.passes.1, t.passes.2, marked_from m word stem (at k) (at_node k mark) (rw (at_state k mark) t.passes.3));
         })

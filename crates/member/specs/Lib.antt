@@ -1,3 +1,4 @@
 pub mod Maps
 pub mod Bounds
 pub mod Questions
+pub mod Refusals

@@ -1,14 +1,14 @@
 -- What the two questions on a chart's words answer, and when they are refused.
 use Rattle.std.specs.Prelude.{◌≡◌, ℕ, ◌<◌, Bool, true, false, List, length}
 use Rattle.chart.specs.Automata.{Automaton}
-use Rattle.fault.specs.declared.MemberFault.{MemberFault}
-use Rattle.fault.specs.declared.MemberFault.TheVariants as faults
-use Rattle.fault.specs.declared.SearchFault.TheVariants.{Table, Full}
+use Rattle.member.specs.declared.faults.MemberFault.{MemberFault}
+use Rattle.member.specs.declared.faults.MemberFault.TheVariants as faults
+use Rattle.records.specs.declared.faults.SearchFault.TheVariants.{Table, Full}
 use Rattle.graph.specs.Walks.{More}
 use Rattle.lasso.specs.Refused.{WordRefused}
 use Rattle.lasso.specs.Words.{letter, IsWord, Takes, Accepts}
-use Rattle.search.specs.declared.records.Record.{Record}
-use Rattle.search.specs.Surveys.{Allowed}
+use Rattle.records.specs.declared.record.Record.{Record}
+use Rattle.records.specs.Sizes.{Allowed}
 use Rattle.member.specs.Maps.{chart_graph, word_graph}
 
 -- the automaton takes no word, of any length, and accepts no endless word, repeating or not

@@ -1,6 +1,6 @@
 // A chart as a map: its states and its steps. It is the same for every word.
 ghost use Rattle.std.specs.Prelude.{◌≡◌};
-ghost use Rattle.graph.specs.Least.{Least};
+ghost use Rattle.numbers.specs.Least.{Least};
 ghost use Rattle.member.specs.Bounds.{chart_bounded};
 ghost use Rattle.member.specs.Maps.{chart_graph};
 

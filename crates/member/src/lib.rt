@@ -2,11 +2,13 @@
 #![tactic(auto)]
 
 mod charts;
+mod faults;
 mod questions;
 mod words;
 
 pub use charts::ChartMap;
+pub use faults::MemberFault;
 pub use lasso::{Lasso, Word};
 pub use questions::{empty, member};
-pub use search::Record;
+pub use records::Record;
 pub use words::WordMap;

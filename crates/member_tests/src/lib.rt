@@ -3,8 +3,8 @@
 #![tactic(auto)]
 
 #[cfg(test)]
-mod refusals;
+mod questions;
 #[cfg(test)]
-mod samples;
+mod refusals;
 #[cfg(test)]
 mod takings;

@@ -5,14 +5,15 @@ use Rattle.std.proofs.lemmas.Bool.{and_cases, true≢false}
 use Rattle.std.proofs.lemmas.Bool.Decides.{Decides-below_and, Decides-below_or}
 use Rattle.numbers.specs.Below.{all_below, any_below}
 
-same : (b : Bool) → Decides b (b ≡ true)
-same b = (λ e. e, λ e. e)
+-- a test decides that it is true
+pub itself : (b : Bool) → Decides b (b ≡ true)
+itself b = (λ e. e, λ e. e)
 
 all_decides : (n : ℕ) (p : ℕ → Bool) → Decides (all_below n p) ((k : ℕ) → k < n → p k ≡ true)
-all_decides n p = Decides-below_and p (λ k. p k ≡ true) (λ m. all_below m p) (λ k. same (p k)) refl (λ _. refl) n
+all_decides n p = Decides-below_and p (λ k. p k ≡ true) (λ m. all_below m p) (λ k. itself (p k)) refl (λ _. refl) n
 
 any_decides : (n : ℕ) (p : ℕ → Bool) → Decides (any_below n p) ((k : ℕ) × (k < n) × (p k ≡ true))
-any_decides n p = Decides-below_or p (λ k. p k ≡ true) (λ m. any_below m p) (λ k. same (p k)) refl (λ _. refl) n
+any_decides n p = Decides-below_or p (λ k. p k ≡ true) (λ m. any_below m p) (λ k. itself (p k)) refl (λ _. refl) n
 
 pub all_at : (n : ℕ) (p : ℕ → Bool) → all_below n p ≡ true → (k : ℕ) → k < n → p k ≡ true
 all_at n p = (all_decides n p).0

@@ -2,17 +2,26 @@
 -- the property: it is looked at after each such place, whole multiples of p apart, and among more looks than there are
 -- values two see the same.
 use Rattle.std.proofs.Common.{◌≡◌, ℕ, zero, suc, ◌+◌, ◌-◌, ◌*◌, ◌<◌, ◌≤◌, refl, ap, ◌∙◌, add-mul, zero-mul, le-mul_of_pos_right, arith}
+use Rattle.numbers.specs.Returning.{Return}
 use Rattle.numbers.proofs.Pigeonhole.{pigeonhole}
 
--- at or after place j the sequence f has one value twice, a multiple of p apart, with the property P between
-pub record Return (f : ℕ → ℕ) (P : ℕ → Type 0) (j p : ℕ) : Type 0 where
-  pub from : ℕ
-  pub to : ℕ
-  pub late : j ≤ from
-  pub goes : from < to
-  pub apart : (n : ℕ) × (to - from ≡ n * p)
-  pub closes : f from ≡ f to
-  pub passes : (k : ℕ) × (from ≤ k) × (k < to) × P k
+-- the same places for another sequence, with another property, and whatever else is known of how far they are apart
+abbrev pub carried : {f : ℕ → ℕ} {P : ℕ → Type 0} {j p : ℕ} (r : Return f P j p) (g : ℕ → ℕ) (Q : ℕ → Type 0) (i q : ℕ) → i ≤ r.from → (n : ℕ) × (r.to - r.from ≡ n * q)
+    → g r.from ≡ g r.to → ((k : ℕ) → k < r.to → P k → Q k) → Return g Q i q
+carried r g Q i q late apart closes passes =
+    record {
+      from = r.from;
+      to = r.to;
+      late = late;
+      goes = r.goes;
+      apart = apart;
+      closes = closes;
+      passes = (r.passes.0, r.passes.1, r.passes.2, passes r.passes.0 r.passes.2 r.passes.3);
+    }
+
+-- wherever and however far apart
+abbrev pub somewhere : {f : ℕ → ℕ} {P : ℕ → Type 0} {j p : ℕ} → Return f P j p → Return f P 0 1
+somewhere {f} {P} r = carried r f P 0 1 (omega arith) (r.to - r.from, omega arith) r.closes (λ k h x. x)
 
 module _ (P : ℕ → Type 0) (again : (k : ℕ) → (i : ℕ) × (k ≤ i) × P i) (j p : ℕ) where
   -- the place of look i

@@ -1,3 +1,7 @@
-// Tests of numbers that several crates use, and facts on numbers that their proofs need. It has no code: see specs/ and
-// proofs/.
+// Sets of small numbers as the bits of a word, tests of numbers that several crates use, and facts on numbers that their proofs
+// need: see specs/ and proofs/.
 #![tactic(auto)]
+
+mod sets;
+
+pub use sets::{contains, least_member, with};

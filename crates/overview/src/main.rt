@@ -1,16 +1,11 @@
 // Reads duty.chart and rule.chart from the folder that it is run in, and prints what each of them is by itself.
 #![tactic(auto)]
 
-use files::read_file;
-use report::{LIMIT, list_texts};
-
-// One byte more than a text may have, so that a longer file is seen to be longer.
-const MOST: u64 = LIMIT as u64 + 1;
+use files::Texts;
+use report::list_texts;
 
 fn main(rt: HostRuntime) -> anyhow::Result<()> {
-    let heap = rt.alloc();
-    let duty = read_file(&rt, heap, "duty.chart", MOST)?;
-    let rule = read_file(&rt, heap, "rule.chart", MOST)?;
-    rt.print(list_texts(&duty, &rule))?;
+    let texts = Texts::read(&rt, rt.alloc())?;
+    rt.print(list_texts(&texts.duty, &texts.rule))?;
     Ok(())
 }

@@ -73,10 +73,10 @@ module _ (a b : Automaton) (charts : Charts a b) where
       let m = word_lasso g l in
       record {
         word = loop_word g l;
-        stem = l.from;
+        stem = l.back.from;
         loops = m.loops;
         known = word_known g l;
-        alone = lasso_alone l.at (loop_word g l) l.from m;
+        alone = lasso_alone l.at (loop_word g l) l.back.from m;
       }
 
   none_includes : (MarkedCycle (ranked_graph a b) → ⊥) → Included a b

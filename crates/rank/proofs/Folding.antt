@@ -12,7 +12,7 @@ use Rattle.lasso.specs.Words.{letter, Takes}
 use Rattle.lasso.proofs.Agreeing.{takes_accepts}
 use Rattle.lasso.proofs.Places.{after_last, after_next, place_below, place_first, place_next, place_unrolled, place_zero, after_below, laps_joined}
 use Rattle.lasso.proofs.Returning.{run_below, runs_return}
-use Rattle.numbers.proofs.Returning.{returns}
+use Rattle.numbers.proofs.Returning.{carried, returns, somewhere}
 use Rattle.rank.specs.Layout.{bits, fields, flag}
 use Rattle.rank.specs.Rules.{follows}
 use Rattle.rank.specs.Subsets.{level}
@@ -162,15 +162,12 @@ module _ (b : Automaton) (rule : Limits b) (word : List ℕ) (stem s e : ℕ) (h
       (v, record { reached = reached; marked = m; cycle = c }) in
       record {
         run = t.run;
-        from = t.from;
-        to = t.to;
         starts = t.starts;
+        back =
+            carried t.back t.run (λ k. b.mark (t.run k) ≡ true) stem (length word - stem) (omega (arith, r.late, t.back.late))
+            (t.back.apart.0 * r.laps.0, laps_joined (t.back.to - t.back.from) t.back.apart.0 (e - s) r.laps.0 (length word - stem) t.back.apart.1 r.laps.1)
+            t.back.closes (λ k h x. x);
         steps = λ k low. subst (λ l. b.step (t.run k) l (t.run (suc k)) ≡ true) (place_letter k) (t.steps k low);
-        in_loop = omega (arith, r.late, t.in_loop);
-        goes = t.goes;
-        laps = (t.laps.0 * r.laps.0, laps_joined (t.to - t.from) t.laps.0 (e - s) r.laps.0 (length word - stem) t.laps.1 r.laps.1);
-        closes = t.closes;
-        passes = t.passes;
       }
 
   -- A run that takes the word comes back to a state whole repetitions later, past a marked one.
@@ -178,20 +175,16 @@ module _ (b : Automaton) (rule : Limits b) (word : List ℕ) (stem s e : ℕ) (h
   takes_cycle t =
       let a = takes_accepts b word stem h t in
       let again = runs_return b (letter word stem) rule a s (e - s) (omega (arith, r.early)) in
-      let k = again.passes.0 in
       let small : (i : ℕ) → a.run i < 32 = λ i. omega (arith, run_below b (letter word stem) rule a i, rule.size.few_states) in
       loop_cycle (folded b (letter word stem) s e) (record {
         at = λ i. spot e s i (a.run i);
         by = letter word stem;
-        from = again.from;
-        to = again.to;
         starts = spot_start (a.run 0) a.starts;
         edges = λ i low. spot_edge i (a.run i) (a.run (suc i)) (level_run b rule (letter word stem) a i) (a.steps i);
-        goes = again.goes;
-        closes =
-            spot_laps e s again.from again.to again.apart.0 (a.run again.from) (a.run again.to) r.early again.late (omega (arith, again.goes)) again.apart.1
-            again.closes;
-        passes = (k, again.passes.1, again.passes.2, rw (spot_state e s k (a.run k) (small k)) again.passes.3);
+        back =
+            somewhere (carried again (λ i. spot e s i (a.run i)) (λ i. b.mark (spot e s i (a.run i) % 32) ≡ true) s (e - s) again.late again.apart
+            (spot_laps e s again.from again.to again.apart.0 (a.run again.from) (a.run again.to) r.early again.late (omega (arith, again.goes)) again.apart.1 again.closes)
+            (λ k h x. rw (spot_state e s k (a.run k) (small k)) x));
       })
 
   -- so the word is taken exactly if a marked node lies on a cycle, and that is a test

@@ -1,7 +1,7 @@
 -- How a node is told by one number: the duty's state in bits 0 to 4, the turn in bit 5, the owed set in bits 6 to 11, and
 -- from bit 12 on four bits for each state of the rule, which hold its rank and one more, or 0 for none.
 use Rattle.std.specs.Prelude.{ℕ, zero, suc, ◌+◌, ◌*◌, ◌/◌, ◌%◌, ◌^◌, Bool, cond, ◌&&◌, Some, None, Option, nat_lt}
-use Rattle.chart.specs.Kinds.{bit}
+use Rattle.numbers.specs.Bits.{bit}
 use Rattle.rank.specs.Nodes.{Node}
 
 -- so many bits of v, from bit `from` on

@@ -2,7 +2,7 @@
 use Rattle.std.proofs.Common.{◌≡◌, ℕ, ◌+◌, ◌*◌, ◌/◌, ◌%◌, ◌^◌, ◌<◌, ◌&&◌, true, Some, None, Option, sym, subst, arith}
 use Rattle.std.proofs.lemmas.Bool.{and_from, and_parts}
 use Rattle.std.proofs.lemmas.Nat.{div-mul-add, mod-mul-add}
-use Rattle.graph.specs.Least.{Least}
+use Rattle.numbers.specs.Least.{Least}
 use Rattle.ranked.specs.declared.choices.Choices.{Choices}
 use Rattle.ranked.specs.Choices.{rest, chosen}
 use Rattle.ranked.specs.Digits.{drawn}

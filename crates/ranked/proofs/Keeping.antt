@@ -3,9 +3,9 @@ use Rattle.std.proofs.Common.{◌≡◌, ℕ, ◌+◌, ◌*◌, ◌/◌, ◌%◌
 use Rattle.std.proofs.lemmas.Bool.{and_left, cases_lt, false_from_ne_true, le-ltb, lt-ltb}
 use Rattle.std.proofs.lemmas.List.{get_or_past}
 use Rattle.chart.specs.Automata.{Automaton, Limits}
-use Rattle.chart.specs.Kinds.{bit}
-use Rattle.ranked.specs.Snapshots.{by_rows}
-use Rattle.ranked.proofs.Members.{none_false}
+use Rattle.chart.specs.Kinds.{rowwise}
+use Rattle.numbers.specs.Bits.{bit}
+use Rattle.numbers.proofs.Bits.{none_false}
 
 module _ (m : Automaton) (limits : Limits m) (n k s t : ℕ) (rows : List ℕ) (long : length rows ≡ 512) (states : n ≡ m.states) (letters : k ≡ m.letters)
     (starts : (q : ℕ) → bit s q ≡ m.start q) (marks : (q : ℕ) → bit t q ≡ m.mark q)
@@ -34,7 +34,7 @@ module _ (m : Automaton) (limits : Limits m) (n k s t : ℕ) (rows : List ℕ) (
       ∙ sym (no_step p i q (λ e. omega (arith, (limits.steps p i q e).1))))
       (cases_lt i k)
 
-  pub rows_same : by_rows n k s t rows ≡ m
+  pub rows_same : rowwise n k 16 s t rows ≡ m
   rows_same =
       λ j. record {
         states = states j;
@@ -44,5 +44,5 @@ module _ (m : Automaton) (limits : Limits m) (n k s t : ℕ) (rows : List ℕ) (
         step = λ p i q. step_of p i q j;
       }
 
-  pub rows_limits : Limits (by_rows n k s t rows)
+  pub rows_limits : Limits (rowwise n k 16 s t rows)
   rows_limits = subst Limits (sym rows_same) limits

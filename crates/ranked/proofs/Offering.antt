@@ -3,7 +3,7 @@ use Rattle.std.proofs.Common.{◌≡◌, ℕ, zero, suc, ◌+◌, ◌-◌, ◌*�
 use Rattle.std.proofs.Math.Pow.{pow_mono}
 use Rattle.std.proofs.lemmas.Bool.{and_from, and_parts, cases_lt, le-leb, leb-true}
 use Rattle.chart.specs.Automata.{Automaton}
-use Rattle.chart.specs.Kinds.{bit}
+use Rattle.numbers.specs.Bits.{bit}
 use Rattle.rank.specs.Containment.{Charts}
 use Rattle.rank.specs.Layout.{fields, flag, held, number, parts, rank_held}
 use Rattle.rank.specs.Nodes.{Node}

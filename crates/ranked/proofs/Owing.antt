@@ -4,8 +4,8 @@ use Rattle.std.proofs.Math.Bool.{or_comm}
 use Rattle.std.proofs.lemmas.Bool.{and_from, and_parts, both_ways, cases_eq, eq-eqb, eqb-true, false≢true, ne_eqb}
 use lib.Bits.{bit_or}
 use Rattle.chart.specs.Automata.{Automaton}
-use Rattle.chart.specs.Kinds.{bit}
-use Rattle.chart.proofs.Bits.{bit_of_or}
+use Rattle.numbers.specs.Bits.{bit}
+use Rattle.numbers.proofs.Bits.{bit_of_or, member_below, none_false, some_member}
 use Rattle.numbers.specs.Below.{any_below}
 use Rattle.numbers.proofs.Below.{any_at, any_from}
 use Rattle.rank.specs.Containment.{Charts}
@@ -17,7 +17,6 @@ use Rattle.rank.proofs.Laws.{empty_from, empty_none, follows_from, follows_some}
 use Rattle.rank.proofs.Numbers.{numbers_correspond}
 use Rattle.ranked.specs.declared.nodes.Parts.{Parts}
 use Rattle.ranked.specs.Reads.{Reads}
-use Rattle.ranked.proofs.Members.{member_below, none_false, some_member}
 use Rattle.ranked.proofs.Upto.{bit_six}
 
 even_some : (o : Option ℕ) → has_even o ≡ true → (r : ℕ) × (o ≡ Some r)

@@ -2,7 +2,7 @@
 use Rattle.std.proofs.Common.{◌≡◌, ℕ, suc, ◌+◌, ◌*◌, ◌/◌, ◌%◌, ◌<◌, ◌≤◌, Bool, true, ◌&&◌, Some, None, subst, ⊎_elim, refl, arith}
 use Rattle.std.proofs.Math.Nat.{mul-le-mul_right, suc-mul}
 use Rattle.std.proofs.lemmas.Bool.{and_from, and_parts, cases_lt}
-use Rattle.graph.specs.Least.{Least}
+use Rattle.numbers.specs.Least.{Least}
 
 module _ (w : ℕ) (pos : 0 < w) (P A : ℕ → Bool) (B : ℕ → ℕ → Bool)
     (split : (y : ℕ) → P y ≡ true → (A (y / w) ≡ true) × (B (y / w) (y % w) ≡ true))

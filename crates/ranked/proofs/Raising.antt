@@ -3,10 +3,10 @@ use Rattle.std.proofs.Common.{◌≡◌, ℕ, suc, ◌+◌, ◌*◌, ◌%◌, �
 use Rattle.std.proofs.Math.Arith.{mod-mul}
 use Rattle.std.proofs.Math.Nat.{mul_comm}
 use Rattle.std.proofs.lemmas.Nat.{pow_pos}
-use Rattle.chart.specs.Kinds.{bit}
-use Rattle.graph.specs.Least.{Least}
+use Rattle.numbers.specs.Bits.{bit}
+use Rattle.numbers.specs.Least.{Least}
 use Rattle.ranked.specs.Digits.{digit, drawn}
-use Rattle.ranked.proofs.Members.{member_below}
+use Rattle.numbers.proofs.Bits.{member_below}
 use Rattle.ranked.proofs.Numerals.{four_more, drawn_join, drawn_small, drawn_split}
 use Rattle.ranked.proofs.Parted.{least_empty, least_here, least_next, least_none}
 

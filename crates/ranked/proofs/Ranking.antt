@@ -4,8 +4,8 @@ use Rattle.std.proofs.lemmas.Bool.{and_from, and_left, and_parts, and_right, bot
 use lib.Bits.{bit_or}
 use lib.Dec.{eqb-suc-zero, leb-suc-suc}
 use Rattle.chart.specs.Automata.{Automaton, Limits}
-use Rattle.chart.specs.Kinds.{bit}
-use Rattle.chart.proofs.Bits.{bit_of_or}
+use Rattle.numbers.specs.Bits.{bit}
+use Rattle.numbers.proofs.Bits.{bit_of_or}
 use Rattle.rank.specs.Layout.{rank_held}
 use Rattle.rank.specs.Rules.{is_even, is_first_rank, is_next_rank, may_have, top_rank}
 use Rattle.rank.proofs.Implied.{alike, implied, implied_from}

@@ -1,15 +1,15 @@
 -- The bits below the ranks of a chosen number.
 use Rattle.std.proofs.Common.{◌≡◌, ℕ, ◌+◌, ◌-◌, ◌%◌, ◌^◌, ◌<◌, ◌≤◌, ◌&&◌, true, eqb, leb, Some, None, arith}
 use Rattle.std.proofs.lemmas.Bool.{and_from, and_parts, le-leb, leb-true}
-use Rattle.chart.specs.Kinds.{bit}
-use Rattle.graph.specs.Least.{Least}
+use Rattle.numbers.specs.Bits.{bit}
+use Rattle.numbers.specs.Least.{Least}
 use Rattle.rank.specs.Layout.{flag}
 use Rattle.rank.proofs.Fields.{fields_small}
 use Rattle.rank.proofs.Numbers.{flag_small}
 use Rattle.ranked.specs.declared.choices.Choices.{Choices}
 use Rattle.ranked.specs.Choices.{owed, upper, rest}
 use Rattle.ranked.specs.Digits.{digit}
-use Rattle.ranked.proofs.Members.{member_below}
+use Rattle.numbers.proofs.Bits.{member_below}
 
 module _ (c : Choices) (f : ℕ) where
   pub owed_small : owed c f < 64

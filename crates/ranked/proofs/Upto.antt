@@ -3,7 +3,7 @@ use Rattle.std.proofs.Common.{◌≡◌, ℕ, zero, suc, ◌+◌, ◌-◌, ◌*�
 use Rattle.std.specs.Bool.{beq}
 use Rattle.std.specs.Cmp.{booleans_Decides}
 use lib.Bits.{bit_and}
-use Rattle.chart.specs.Kinds.{bit}
+use Rattle.numbers.specs.Bits.{bit}
 use Rattle.numbers.specs.Below.{all_below}
 use Rattle.numbers.proofs.Below.{all_at}
 use Rattle.ranked.specs.Following.{is_upto}

@@ -1,6 +1,6 @@
 -- The numbers that are told by a choice for each of their parts.
 use Rattle.std.specs.Prelude.{ℕ, ◌+◌, ◌-◌, ◌*◌, ◌/◌, ◌%◌, ◌^◌, Bool, ◌&&◌, ◌==◌, nat_le}
-use Rattle.chart.specs.Kinds.{bit}
+use Rattle.numbers.specs.Bits.{bit}
 use Rattle.rank.specs.Layout.{fields, flag}
 use Rattle.ranked.specs.declared.choices.Choices.{Choices}
 use Rattle.ranked.specs.Digits.{digit, drawn}

@@ -1,6 +1,6 @@
 -- Ranks as one number: four bits for each state hold its rank and one more, or 0 for none.
 use Rattle.std.specs.Prelude.{ℕ, ◌*◌, ◌^◌, Bool, ◌&&◌, List, nat_lt, slice_index}
-use Rattle.chart.specs.Kinds.{bit}
+use Rattle.numbers.specs.Bits.{bit}
 use Rattle.numbers.specs.Below.{all_below}
 use Rattle.rank.specs.Layout.{bits}
 

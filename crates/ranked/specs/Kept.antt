@@ -1,7 +1,8 @@
 -- The automaton that a snapshot keeps.
 use Rattle.chart.specs.Automata.{Automaton}
-use Rattle.ranked.specs.Snapshots.{by_rows}
+use Rattle.chart.specs.Kinds.{rowwise}
 use Rattle.ranked.specs.declared.snapshots.Snapshot.{Snapshot}
 
+-- row p * 16 + i is that of state p and letter i
 abbrev pub kept : Snapshot → Automaton
-kept s = by_rows s.states s.letters s.starts s.marks s.rows
+kept s = rowwise s.states s.letters 16 s.starts s.marks s.rows

@@ -1,4 +1,3 @@
-pub mod Snapshots
 pub mod Kept
 pub mod Digits
 pub mod Choices
@@ -7,5 +6,8 @@ pub mod Reads
 pub mod Following
 pub mod Maps
 pub mod Bounds
-pub mod Refused
+pub mod Together
+pub mod Refusals
+pub mod Instances
+pub mod Made
 pub mod Offered

@@ -1,7 +1,7 @@
 -- Choices for the parts of nodes.
 use Rattle.std.specs.Prelude.{◌≡◌, ℕ, ◌<◌, Bool, ◌&&◌, Option, slice_index}
 use Rattle.chart.specs.Automata.{Automaton}
-use Rattle.chart.specs.Kinds.{bit}
+use Rattle.numbers.specs.Bits.{bit}
 use Rattle.rank.specs.Layout.{rank_held}
 use Rattle.rank.specs.Rules.{may_have}
 use Rattle.ranked.specs.declared.choices.Choices.{Choices}

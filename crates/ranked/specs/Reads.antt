@@ -1,6 +1,6 @@
 -- The parts of a node, read from its number.
 use Rattle.std.specs.Prelude.{◌≡◌, ℕ, ◌^◌, ◌<◌}
-use Rattle.chart.specs.Kinds.{bit}
+use Rattle.numbers.specs.Bits.{bit}
 use Rattle.rank.specs.Layout.{parts, rank_held}
 use Rattle.ranked.specs.Digits.{digit}
 use Rattle.ranked.specs.declared.nodes.Parts.{Parts}

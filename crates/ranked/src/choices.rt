@@ -1,7 +1,7 @@
 // The least of the numbers that are told by a choice for each of their parts. It is found part by part, whatever the
 // number of choices.
 use crate::digits::{digit, flag_at, joined};
-use crate::sets::{contains, least_member};
+use numbers::{contains, least_member};
 
 #[derive(Clone, Copy)]
 pub(crate) struct Choices {
@@ -15,9 +15,9 @@ pub(crate) struct Choices {
 }
 
 impl Choices {
-    ghost use Rattle.std.specs.Prelude.{◌≡◌, ℕ, suc, ◌*◌, ◌%◌, ◌^◌, ◌<◌, ◌&&◌, slice_index};
-    ghost use Rattle.chart.specs.Kinds.{bit};
-    ghost use Rattle.graph.specs.Least.{Least};
+    ghost use Rattle.std.specs.Prelude.{◌≡◌, suc, ◌*◌, ◌%◌, ◌^◌, ◌<◌, ◌&&◌, slice_index};
+    ghost use Rattle.numbers.specs.Bits.{bit};
+    ghost use Rattle.numbers.specs.Least.{Least};
     ghost use Rattle.ranked.specs.Digits.{digit, drawn};
     ghost use Rattle.ranked.specs.Choices.{owed, upper, rest, chosen};
 

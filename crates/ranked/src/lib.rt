@@ -3,6 +3,8 @@
 
 mod choices;
 mod digits;
+mod faults;
+mod instances;
 mod making;
 mod maps;
 mod nodes;
@@ -11,4 +13,6 @@ mod questions;
 mod sets;
 mod snapshots;
 
+pub use faults::InstanceFault;
+pub use instances::Instance;
 pub use maps::RankedMap;

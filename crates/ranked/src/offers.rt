@@ -3,11 +3,11 @@ use crate::choices::Choices;
 use crate::digits::digit;
 use crate::maps::RankedMap;
 use crate::nodes::Parts;
-use crate::sets::contains;
+use numbers::contains;
 
 impl RankedMap {
     ghost use Rattle.std.specs.Prelude.{◌≡◌, ℕ, ◌<◌, ◌≤◌, ◌&&◌, ◌||◌, true, nat_lt};
-    ghost use Rattle.chart.specs.Kinds.{bit};
+    ghost use Rattle.numbers.specs.Bits.{bit};
     ghost use Rattle.rank.specs.Layout.{parts, rank_held};
     ghost use Rattle.rank.specs.Ranked.{is_number};
     ghost use Rattle.rank.specs.Rules.{is_empty, follows, may_have, is_first_rank, is_next_rank, next_turn};
@@ -157,7 +157,7 @@ impl RankedMap {
 }
 
 ghost use Rattle.std.specs.Prelude.{◌≡◌, ℕ, ◌<◌, ◌≤◌, ◌⊎◌, slice_index};
-ghost use Rattle.chart.specs.Kinds.{bit};
+ghost use Rattle.numbers.specs.Bits.{bit};
 ghost use Rattle.numbers.specs.Below.{any_below};
 ghost use Rattle.ranked.specs.Following.{is_upto};
 

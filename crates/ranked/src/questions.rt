@@ -5,7 +5,7 @@ use crate::nodes::Parts;
 
 impl RankedMap {
     ghost use Rattle.std.specs.Prelude.{◌≡◌};
-    ghost use Rattle.graph.specs.Least.{Least};
+    ghost use Rattle.numbers.specs.Least.{Least};
     ghost use Rattle.rank.specs.Ranked.{is_number, ranked_graph};
     ghost use Rattle.ranked.specs.Maps.{duty_of, rule_of};
 

@@ -1,8 +1,8 @@
 // A chart's answers, asked once and kept: what comes after asks no chart.
 ghost use Rattle.std.specs.Prelude.{◌≡◌, ℕ, ◌/◌, ◌%◌, ◌<◌, slice_index};
 ghost use Rattle.chart.specs.Automata.{Limits};
-ghost use Rattle.chart.specs.Kinds.{bit};
-ghost use Rattle.ranked.specs.Snapshots.{by_rows};
+ghost use Rattle.chart.specs.Kinds.{rowwise};
+ghost use Rattle.numbers.specs.Bits.{bit};
 
 use crate::sets::members;
 use chart::Chart;
@@ -16,7 +16,7 @@ pub(crate) struct Snapshot {
     pub(crate) marks: u32,
     // row p * 16 + i is the set of the states that state p steps to by letter i; no chart has more than 32 states or 16 letters
     rows: [u32; 512],
-    ghost limits: { Limits (by_rows states letters starts marks rows) },
+    ghost limits: { Limits (rowwise states letters 16 starts marks rows) },
 }
 
 // The set of the chart's starts.
@@ -52,7 +52,7 @@ fn rows<C: Chart>(chart: &C) -> [u32; 512]
 
 impl Snapshot {
     ghost use Rattle.std.specs.Prelude.{◌≡◌, ℕ, ◌<◌};
-    ghost use Rattle.chart.specs.Kinds.{bit};
+    ghost use Rattle.numbers.specs.Bits.{bit};
     ghost use Rattle.ranked.specs.Kept.{kept};
 
     // It tells what the chart means.

@@ -3,14 +3,12 @@
 #![tactic(auto)]
 
 #[cfg(test)]
+mod expected;
+#[cfg(test)]
 mod kinds;
 #[cfg(test)]
 mod limits;
 #[cfg(test)]
-mod loops;
-#[cfg(test)]
-mod pairs;
-#[cfg(test)]
-mod samples;
+mod node_numbers;
 #[cfg(test)]
 mod wholes;

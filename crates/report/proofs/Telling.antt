@@ -6,20 +6,21 @@ use Rattle.bench.specs.declared.states.Form.{Form}
 use Rattle.bench.specs.declared.verdicts.Verdict.{Verdict}
 use Rattle.chart.specs.Automata.{Automaton}
 use Rattle.report.specs.Counterexamples.{Lettered, Tells, TellsBoth}
-use Rattle.fault.specs.declared.BenchFault.{BenchFault}
-use Rattle.fault.specs.declared.BenchFault.TheVariants as faults
-use Rattle.fault.specs.declared.SearchFault.TheVariants.{Full}
+use Rattle.bench.specs.declared.faults.BenchFault.{BenchFault}
+use Rattle.bench.specs.declared.faults.BenchFault.TheVariants as faults
+use Rattle.records.specs.declared.faults.SearchFault.TheVariants.{Full}
 use Rattle.report.specs.Decided.{CertifiesBoth, ChartsTold, DecidesBoth}
 use Rattle.report.specs.Spelled.{Known}
 use Rattle.report.specs.declared.refuting.Told.{Told}
 use Rattle.report.specs.declared.refuting.Told.TheVariants.{Kept, Broken}
 use Rattle.report.specs.declared.refusals.Refusal.{Refusal}
-use Rattle.rules.specs.declared.Kind.{Kind}
-use Rattle.rules.specs.declared.Kind.TheVariants.{Break}
-use Rattle.search.specs.Tables.{blank}
-use Rattle.search.specs.declared.records.Record.{Record}
+use Rattle.slip.specs.declared.kinds.Kind.{Kind}
+use Rattle.slip.specs.declared.kinds.Kind.TheVariants.{Break}
+use Rattle.records.specs.Tables.{blank}
+use Rattle.records.specs.declared.record.Record.{Record}
 use Rattle.slip.specs.Shapes.{stems}
-use Rattle.slip.specs.Showing.{letters, ShowsFor}
+use Rattle.slip.specs.Measured.{letters}
+use Rattle.bench.specs.Showing.{ShowsFor}
 use Rattle.verdict.specs.Certified.{Certifies, DecideTells}
 use Rattle.verdict.specs.declared.certifying.Certified.{Certified}
 
@@ -101,10 +102,9 @@ told duty rule was table c (Broken x) h t =
 pub charts_told : (a b : Automaton) (was table work work' : List Record) (r : Result Certified BenchFault) → DecideTells a b 512 was table work work' r
     → length work ≡ 512 → length was ≡ 1024 → ChartsTold a b was table r
 charts_told a b was table work work' (Ok c) h enough sized =
-    record { go_together = record { letters = h.0.letters; few_states = h.0.few_states }; certifies = h.2 }
-charts_told a b was table work work' (Err faults.Letters) h enough sized = (h.0, h.1.same_table)
-charts_told a b was table work work' (Err faults.States) h enough sized = ((h.0, h.1), h.2.same_table)
+    record { go_together = h.0.together; certifies = h.2 }
+charts_told a b was table work work' (Err (faults.Instance e)) h enough sized = (h.0, h.1.same_table)
 charts_told a b was table work work' (Err faults.Room) h enough sized =
-    absurd (h.2 (record { some_records = omega arith; few_records = omega arith }, omega (arith, sized), enough))
-charts_told a b was table work work' (Err (faults.Search Full)) h enough sized = ((h.0.letters, h.0.few_states, h.2), h.3)
+    absurd (h.1 (record { some_records = omega arith; few_records = omega arith }, omega (arith, sized), enough))
+charts_told a b was table work work' (Err (faults.Search Full)) h enough sized = ((h.0.together, h.2), h.3)
 charts_told a b was table work work' (Err e) h enough sized = absurd h

@@ -7,7 +7,8 @@ use Rattle.bench.specs.declared.verdicts.Verdict.{Verdict}
 use Rattle.chart.specs.Automata.{Automaton}
 use Rattle.lasso.specs.Words.{IsWord}
 use Rattle.rank.specs.Containment.{TakenAlone}
-use Rattle.report.specs.Decided.{DecidesBoth, BothRefused, GoTogether}
+use Rattle.ranked.specs.Together.{GoTogether}
+use Rattle.report.specs.Decided.{DecidesBoth, BothRefused}
 use Rattle.report.specs.Readings.{ReadsBoth, FirstRefused}
 use Rattle.report.specs.Shown.{refusal_text}
 use Rattle.report.specs.Spelled.{Known, letters_text}
@@ -16,9 +17,9 @@ use Rattle.report.specs.declared.refuting.CounterexampleReport.{CounterexampleRe
 use Rattle.report.specs.declared.refuting.Told.{Told}
 use Rattle.report.specs.declared.refuting.Told.TheVariants.{Kept, Broken}
 use Rattle.report.specs.declared.refusals.Refusal.{Refusal}
-use Rattle.rules.specs.declared.Kind.TheVariants.{Keep, Break}
-use Rattle.search.specs.declared.records.Record.{Record}
-use Rattle.slip.specs.Showing.{letters}
+use Rattle.slip.specs.declared.kinds.Kind.TheVariants.{Keep, Break}
+use Rattle.records.specs.declared.record.Record.{Record}
+use Rattle.slip.specs.Measured.{letters}
 use Rattle.verdict.specs.declared.certifying.Certified.{Certified}
 
 -- the records of its slip

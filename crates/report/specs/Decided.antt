@@ -4,24 +4,19 @@ use Rattle.bench.specs.Shown.{verdict_text}
 use Rattle.bench.specs.Verdicts.{Decides}
 use Rattle.bench.specs.declared.verdicts.Verdict.{Verdict}
 use Rattle.chart.specs.Automata.{Automaton}
-use Rattle.fault.specs.declared.BenchFault.{BenchFault}
-use Rattle.fault.specs.declared.BenchFault.TheVariants as bench
-use Rattle.fault.specs.declared.SearchFault.TheVariants.{Full}
+use Rattle.bench.specs.declared.faults.BenchFault.{BenchFault}
+use Rattle.bench.specs.declared.faults.BenchFault.TheVariants as bench
+use Rattle.records.specs.declared.faults.SearchFault.TheVariants.{Full}
 use Rattle.graph.specs.Walks.{More}
 use Rattle.rank.specs.Ranked.{ranked_graph}
-use Rattle.ranked.specs.Refused.{MapRefused}
+use Rattle.ranked.specs.Together.{GoTogether, InstanceRefused}
 use Rattle.report.specs.Readings.{ReadsBoth, FirstRefused}
 use Rattle.report.specs.Shown.{refusal_text}
 use Rattle.report.specs.declared.refusals.Refusal.{Refusal}
 use Rattle.report.specs.declared.deciding.Report.{Report}
-use Rattle.search.specs.declared.records.Record.{Record}
+use Rattle.records.specs.declared.record.Record.{Record}
 use Rattle.verdict.specs.Certified.{Certifies}
 use Rattle.verdict.specs.declared.certifying.Certified.{Certified}
-
--- the charts have the same letters, and the rule at most 6 states
-pub record GoTogether (a b : Automaton) : Type 0 where
-  pub letters : a.letters ≡ b.letters
-  pub few_states : b.states ≤ 6
 
 -- a verdict on two charts, in a room of 512 nodes, and the slip that shows it, written over a table
 pub record CertifiesCharts (a b : Automaton) (was table : List Record) (c : Certified) : Type 0 where
@@ -46,9 +41,8 @@ pub record DecidesBoth (duty rule : List ℕ) (v : Verdict) : Type 0 where
 
 -- The charts differ in letters, or the rule has more than 6 states, or more than 512 nodes of their ranked graph can be reached.
 abbrev pub BothRefused : Automaton → Automaton → BenchFault → Type 0
-BothRefused a b bench.Letters = MapRefused a b bench.Letters
-BothRefused a b bench.States = MapRefused a b bench.States
-BothRefused a b (bench.Search Full) = (a.letters ≡ b.letters) × (b.states ≤ 6) × More (ranked_graph a b) 512
+BothRefused a b (bench.Instance e) = InstanceRefused a b e
+BothRefused a b (bench.Search Full) = GoTogether a b × More (ranked_graph a b) 512
 BothRefused a b _ = ⊥
 
 -- what is told of two charts, where a refusal leaves the table as it was

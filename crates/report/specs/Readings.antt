@@ -1,10 +1,10 @@
 -- What it is to read a file, and when one is refused.
 use Rattle.std.specs.Prelude.{◌≡◌, ℕ, ◌<◌, ◌≤◌, ◌⊎◌, List, length}
 use Rattle.chart.specs.Automata.{Automaton}
-use Rattle.fault.specs.declared.BenchFault.{BenchFault}
-use Rattle.fault.specs.declared.BenchFault.TheVariants as bench
+use Rattle.bench.specs.declared.faults.BenchFault.{BenchFault}
+use Rattle.bench.specs.declared.faults.BenchFault.TheVariants as bench
 use Rattle.fault.specs.declared.ChartFault.{ChartFault}
-use Rattle.fault.specs.declared.ChartFault.TheVariants.{Text, FewRows, Limits}
+use Rattle.fault.specs.declared.ChartFault.TheVariants.{Text}
 use Rattle.fault.specs.declared.TextFault.TheVariants.{Form}
 use Rattle.report.specs.declared.refusals.Refusal.{Refusal}
 use Rattle.report.specs.declared.refusals.Side.{Side}
@@ -20,8 +20,7 @@ pub record Reads (text : List ℕ) (m : Automaton) : Type 0 where
 -- A longer file is refused as a whole, another at its first wrong line.
 abbrev pub FileRefused : List ℕ → ChartFault → Type 0
 FileRefused text (Text e) = ((8192 < length text) × (e ≡ Form 0)) ⊎ ((length text ≤ 8192) × TextRefused text e)
-FileRefused text FewRows = ⊥
-FileRefused text Limits = ⊥
+FileRefused text _ = ⊥
 
 -- a fault of a chart's file
 abbrev pub OfFile : List ℕ → BenchFault → Type 0

@@ -1,6 +1,6 @@
 -- The bytes of a refusal: a line of names, and a line of values.
 use Rattle.std.specs.Prelude.{ℕ, List, [], ◌∷◌, ◌++◌, codes, decimal}
-use Rattle.fault.specs.Refusals.{bench_refusal}
+use Rattle.bench.specs.Refusals.{bench_refusal}
 use Rattle.report.specs.declared.refusals.Refusal.{Refusal}
 use Rattle.report.specs.declared.refusals.Side.{Side}
 use Rattle.report.specs.declared.refusals.Side.TheVariants.{Duty, Rule, Bench}

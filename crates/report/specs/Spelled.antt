@@ -1,7 +1,7 @@
 -- The letters of records, and how they are written.
 use Rattle.std.specs.Prelude.{ℕ, ◌+◌, ◌<◌, List, [], ◌∷◌, codes, length, map}
-use Rattle.search.specs.Tables.{letter_at}
-use Rattle.search.specs.declared.records.Record.{Record}
+use Rattle.records.specs.Tables.{letter_at}
+use Rattle.records.specs.declared.record.Record.{Record}
 
 -- each is a letter that a chart may have
 abbrev pub Known : List Record → Type 0

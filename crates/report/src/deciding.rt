@@ -6,7 +6,7 @@ ghost use Rattle.report.specs.ReadCharts.{chart_of};
 
 use crate::read_charts::ReadChart;
 use crate::refusals::{Refusal, Side};
-use fault::BenchFault;
+use bench::BenchFault;
 use std::fmt;
 use verdict::{Certified, Record, Verdict, decide};
 
@@ -68,7 +68,12 @@ fn decide_both(duty: &[u8], rule: &[u8]) -> Result<Verdict, Refusal>
     Ok(certified.verdict)
 }
 
-// Reads the duty's text, then the rule's, and decides whether the rule takes all that the duty takes.
+// Reads the duty's text, then the rule's, and decides whether the rule takes every repeating word that the duty takes, in a room of 512
+// nodes of their ranked graph.
+//
+// Refused as `load` refuses the duty's text, by 1 or 2 at a line, then as it refuses the rule's, a text of more than 8,192 bytes by 1 at
+// line 0; then by 5 where the charts differ in letters, by 6 where the rule has more than 6 states, and by 13 where more nodes can be
+// reached than the room. Nothing is lent that could be altered.
 pub fn decide_texts(duty: &[u8], rule: &[u8]) -> Report
     ensures { Reports duty.now rule.now result }
 {

@@ -100,7 +100,10 @@ fn list_both(duty: &[u8], rule: &[u8]) -> Result<Summaries, Refusal>
     })
 }
 
-// Reads the duty's text, then the rule's.
+// Reads the duty's text, then the rule's, and tells of each chart how large it is and whether it takes no word.
+//
+// Refused as `load` refuses the duty's text, by 1 or 2 at a line, then as it refuses the rule's, a text of more than 8,192 bytes by 1 at
+// line 0. Nothing is lent that could be altered.
 pub fn list_texts(duty: &[u8], rule: &[u8]) -> Listing
     ensures { ListsTexts duty.now rule.now result }
 {

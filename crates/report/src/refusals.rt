@@ -5,7 +5,8 @@ ghost use Rattle.report.specs.Readings.{OfFile};
 ghost use Rattle.report.specs.Shown.{side_text, refusal_text};
 
 use crate::read_charts::ReadChart;
-use fault::{BenchFault, Fault};
+use bench::BenchFault;
+use fault::Fault;
 use std::fmt;
 
 #[derive(Clone, Copy, PartialEq, Eq, Debug)]
@@ -40,9 +41,12 @@ impl fmt::Display for Refusal {
     ghost output = { λ r. Some (refusal_text r) };
 
     fn fmt<W: fmt::Write>(&self, f: &mut fmt::Formatter<W>) -> fmt::Result {
-        let number = self.fault.number();
-        let place = self.fault.place();
-        write!(f, "refused at place\n{number} {} {place}\n", self.side)
+        let told = self.fault.refusal();
+        write!(
+            f,
+            "refused at place\n{} {} {}\n",
+            told.number, self.side, told.place
+        )
     }
 }
 

@@ -1,16 +1,16 @@
-// Examples of the report on two texts, with answers worked out by hand or by tests/compare_verdicts.py. They stand in a
+// Examples of the reports on two texts, with answers worked out by hand or by tests/compare_verdicts.py. They stand in a
 // crate of their own since tests are proved too.
 #![tactic(auto)]
 
-#[cfg(test)]
-mod benches;
 #[cfg(test)]
 mod counterexamples;
 #[cfg(test)]
 mod counts;
 #[cfg(test)]
-mod parts;
+mod emptiness;
 #[cfg(test)]
-mod samples;
+mod listings;
 #[cfg(test)]
-mod texts;
+mod printed;
+#[cfg(test)]
+mod refusals;

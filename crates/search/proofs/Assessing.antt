@@ -3,8 +3,9 @@ use Rattle.std.proofs.Common.{◌≡◌, ℕ, ◌+◌, ◌-◌, ◌<◌, ◌≤�
 use Rattle.std.proofs.lemmas.Bool.{cases_eq, cases_lt}
 use Rattle.graph.specs.Graphs.{Graph}
 use Rattle.graph.specs.Walks.{Edge, Reach, here, Recurring, mark, Measure}
-use Rattle.search.specs.declared.records.Record.{Record}
-use Rattle.search.specs.Tables.{node_at, letter_at, measure_at, low_at, up_at}
+use Rattle.records.specs.declared.record.Record.{Record}
+use Rattle.records.specs.Tables.{node_at, letter_at, measure_at}
+use Rattle.search.specs.Links.{low_at, up_at}
 use Rattle.search.specs.Trees.{Used, Follows, Heavy}
 use Rattle.search.specs.Weights.{Unmarked, MarkedIn, Rooted}
 use Rattle.search.proofs.Components.{comp_recurring, plain_measure, lone_measure}

@@ -5,7 +5,8 @@ use Rattle.std.proofs.lemmas.Bool.{cases_eq}
 use Rattle.graph.specs.Graphs.{Graph}
 use Rattle.graph.specs.Walks.{Edge, Reach, Path, here, Recurring, Walk, mark, marks, Measure}
 use Rattle.graph.proofs.Paths.{path_join, path_edge, path_first, path_before}
-use Rattle.search.specs.Trees.{At, Upto, Tree, Follows, Heavy}
+use Rattle.records.specs.Tables.{At}
+use Rattle.search.specs.Trees.{Upto, Tree, Follows, Heavy}
 use Rattle.search.proofs.Steps.{open_le}
 
 module _ (g : Graph) (s top n cur : ℕ) (node letter low up at : ℕ → ℕ)

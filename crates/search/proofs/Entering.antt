@@ -2,17 +2,21 @@
 use Rattle.std.proofs.Common.{◌≡◌, ℕ, suc, ◌+◌, ◌*◌, ◌/◌, ◌%◌, ◌<◌, ◌≤◌, List, length, set, Some, sym, refl, ap, ◌∙◌, subst, inl, inr, ⊎_elim, arith, length-set}
 use Rattle.std.proofs.lemmas.Bool.{cases_lt}
 use Rattle.graph.specs.Graphs.{Graph}
-use Rattle.graph.specs.Least.{Least}
+use Rattle.numbers.specs.Least.{Least}
 use Rattle.graph.specs.Walks.{Edge, Reach, go, Path, here, More}
-use Rattle.search.specs.declared.records.Record.{Record}
-use Rattle.search.specs.declared.searches.Progress.{Progress}
+use Rattle.graph.proofs.Counting.{one_more}
+use Rattle.records.specs.declared.record.Record.{Record}
+use Rattle.search.specs.Progress.{Progress}
 use Rattle.search.specs.Searches.{Searching, Going, Fresh, Entered, Keeps, Stepped}
-use Rattle.search.specs.Tables.{node_at, letter_at, measure_at, low_at, up_at}
-use Rattle.search.specs.Trees.{Used, Upto, Held, Done, Tree, put}
-use Rattle.search.proofs.Columns.{column_set, low_of, up_of}
+use Rattle.records.specs.Tables.{node_at, letter_at, measure_at}
+use Rattle.search.specs.Links.{low_at, up_at}
+use Rattle.search.specs.Trees.{Used, Upto, Held, Done, Tree}
+use Rattle.numbers.specs.Puts.{put}
+use Rattle.records.proofs.Columns.{column_set}
+use Rattle.search.proofs.Halves.{low_of, up_of}
 use Rattle.search.proofs.Finished.{done_as}
 use Rattle.search.proofs.Moves.{fun_at, upto_next}
-use Rattle.search.proofs.Puts.{by_place, put_same, put_other}
+use Rattle.numbers.proofs.Puts.{by_place, put_same, put_other}
 use Rattle.search.proofs.Pushes.{tree_push}
 
 -- the table is full, and one node more is reachable
@@ -23,23 +27,8 @@ module _ (g : Graph) (s top n v : ℕ) (node : ℕ → ℕ) (h : Held g s top n 
 
   pub crowded : More g n
   crowded =
-      record {
-        at = put node n v;
-        apart =
-            λ i j hi hj. by_place (λ i. i ≤ n → put node n v i ≡ put node n v j → i ≡ j) n i
-            (λ hi. by_place (λ j. j ≤ n → put node n v n ≡ put node n v j → n ≡ j) n j (λ hj e. refl)
-            (λ ne hj e. absurd
-            (new j (all_used j (omega arith)) (sym (put_other node n v j ne) ∙ (sym e ∙ put_same node n v)))) hj)
-            (λ ni hi. by_place (λ j. j ≤ n → put node n v i ≡ put node n v j → i ≡ j) n j
-            (λ hj e. absurd
-            (new i (all_used i (omega arith)) (sym (put_other node n v i ni) ∙ (e ∙ put_same node n v))))
-            (λ nj hj e. h.apart i j (all_used i (omega arith)) (all_used j (omega arith))
-            (sym (put_other node n v i ni) ∙ (e ∙ put_other node n v j nj))) hj) hi;
-        reached =
-            λ i. by_place (λ i. i ≤ n → Reach g (put node n v i)) n i
-            (λ hi. subst (λ x. Reach g x) (sym (put_same node n v)) reached)
-            (λ ne hi. subst (λ x. Reach g x) (sym (put_other node n v i ne)) (h.reached i (all_used i (omega arith))));
-      }
+      one_more g n v node (λ i j hi hj. h.apart i j (all_used i hi) (all_used j hj)) (λ i hi. h.reached i (all_used i hi)) reached
+      (λ i hi. new i (all_used i hi))
 
 -- a new node at the end of the stack
 module _ (g : Graph) (s top n v : ℕ) (node : ℕ → ℕ) (h : Held g s top n node) (room : s < top) (reached : Reach g v)

@@ -2,10 +2,10 @@
 use Rattle.std.proofs.Common.{◌≡◌, ℕ, ◌<◌, ◌≤◌, List, length, Some, None, Option, sym, ◌∙◌, subst, arith}
 use Rattle.graph.specs.Graphs.{Graph}
 use Rattle.graph.specs.Walks.{Edge, Measure}
-use Rattle.search.specs.declared.records.Record.{Record}
+use Rattle.records.specs.declared.record.Record.{Record}
 use Rattle.search.specs.Changes.{Quiet}
 use Rattle.search.specs.Searches.{Keeps}
-use Rattle.search.specs.Tables.{node_at, measure_at}
+use Rattle.records.specs.Tables.{node_at, measure_at}
 use Rattle.search.specs.Trees.{Done, DoneTold}
 use Rattle.search.proofs.Moves.{fun_at}
 

@@ -3,15 +3,17 @@ use Rattle.std.proofs.Common.{◌≡◌, ℕ, suc, ◌<◌, ◌≤◌, min, List
 use Rattle.graph.specs.Graphs.{Graph, Bounded}
 use Rattle.graph.specs.Walks.{Path}
 use Rattle.graph.proofs.Paths.{path_join}
-use Rattle.search.specs.declared.records.Record.{Record}
-use Rattle.search.specs.declared.searches.Progress.{Progress}
+use Rattle.records.specs.declared.record.Record.{Record}
+use Rattle.search.specs.Progress.{Progress}
 use Rattle.search.specs.Changes.{Changed}
 use Rattle.search.specs.Searches.{Searching, Explored, Stepped, GoesOn}
-use Rattle.search.specs.Tables.{node_at, letter_at, low_at, up_at}
-use Rattle.search.specs.Trees.{Under, Tree, put}
+use Rattle.records.specs.Tables.{node_at, letter_at}
+use Rattle.search.specs.Links.{low_at, up_at}
+use Rattle.search.specs.Trees.{Under, Tree}
+use Rattle.numbers.specs.Puts.{put}
 use Rattle.search.proofs.Finished.{done_quiet, keeps_nodes}
 use Rattle.search.proofs.Moves.{fun_at, quiet_join, changed_quiet, changed_low, held_as, tree_changed, min_cases, searching_resumed, resumed_quiet}
-use Rattle.search.proofs.Puts.{put_same, put_other}
+use Rattle.numbers.proofs.Puts.{put_same, put_other}
 use Rattle.search.proofs.Pushes.{tree_leave}
 use Rattle.search.proofs.Steps.{tree_seen}
 

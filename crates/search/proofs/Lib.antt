@@ -1,6 +1,5 @@
-pub mod Puts
+pub mod Halves
 pub mod Parts
-pub mod Columns
 pub mod Steps
 pub mod Pushes
 pub mod Components
@@ -11,10 +10,6 @@ pub mod Weighing
 pub mod Assessing
 pub mod Entering
 pub mod Leaving
-pub mod Raising
 pub mod Retiring
 pub mod Stepping
 pub mod Visiting
-pub mod Queueing
-pub mod Tracing
-pub mod Joining

@@ -2,15 +2,17 @@
 use Rattle.std.proofs.Common.{◌≡◌, ℕ, suc, ◌+◌, ◌^◌, ◌<◌, ◌≤◌, min, true, ◌⊎◌, List, length, Some, sym, refl, ap, ◌∙◌, subst, inl, inr, ⊎_elim, arith}
 use Rattle.std.proofs.lemmas.Bool.{cases_eq, cases_lt}
 use Rattle.graph.specs.Graphs.{Graph, Bounded}
-use Rattle.graph.specs.Least.{Least}
+use Rattle.numbers.specs.Least.{Least}
 use Rattle.graph.specs.Walks.{Path}
 use Rattle.graph.proofs.Paths.{path_edge}
-use Rattle.search.specs.declared.records.Record.{Record}
+use Rattle.records.specs.declared.record.Record.{Record}
 use Rattle.search.specs.Changes.{Changed, Quiet, Met}
 use Rattle.search.specs.Searches.{Searching, Resumed, left}
-use Rattle.search.specs.Tables.{node_at, letter_at, low_at, up_at}
-use Rattle.search.specs.Trees.{At, Upto, Held, Tree, put}
-use Rattle.search.proofs.Puts.{put_same, put_other, put_id}
+use Rattle.records.specs.Tables.{node_at, letter_at, At}
+use Rattle.search.specs.Links.{low_at, up_at}
+use Rattle.search.specs.Trees.{Upto, Held, Tree}
+use Rattle.numbers.specs.Puts.{put}
+use Rattle.numbers.proofs.Puts.{put_same, put_other, put_id}
 use Rattle.search.proofs.Steps.{tree_seen}
 
 pub fun_at : {f h : ℕ → ℕ} → f ≡ h → (k : ℕ) → f k ≡ h k

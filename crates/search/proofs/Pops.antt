@@ -3,8 +3,9 @@ use Rattle.std.proofs.Common.{◌≡◌, ℕ, zero, suc, ◌+◌, ◌-◌, ◌<�
 use Rattle.std.proofs.lemmas.Bool.{cases_lt}
 use Rattle.graph.specs.Graphs.{Graph}
 use Rattle.graph.specs.Walks.{Edge, Reach, Path, Measure}
-use Rattle.search.specs.Trees.{At, Used, Upto, Open, Under, Held, Done, DoneTold, Tree}
-use Rattle.search.proofs.Puts.{by_place}
+use Rattle.records.specs.Tables.{At}
+use Rattle.search.specs.Trees.{Used, Upto, Open, Under, Held, Done, DoneTold, Tree}
+use Rattle.numbers.proofs.Puts.{by_place}
 use Rattle.search.proofs.Pushes.{path_as}
 use Rattle.search.proofs.Steps.{open_le}
 use Rattle.search.proofs.Components.{comp_closed}

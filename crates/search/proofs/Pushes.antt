@@ -4,8 +4,10 @@ use Rattle.std.proofs.lemmas.Bool.{cases_eq, cases_lt}
 use Rattle.graph.specs.Graphs.{Graph}
 use Rattle.graph.specs.Walks.{Edge, Path, here}
 use Rattle.graph.proofs.Paths.{path_join, path_edge}
-use Rattle.search.specs.Trees.{At, Upto, Open, Under, Tree, put}
-use Rattle.search.proofs.Puts.{by_place, put_same, put_other}
+use Rattle.records.specs.Tables.{At}
+use Rattle.search.specs.Trees.{Upto, Open, Under, Tree}
+use Rattle.numbers.specs.Puts.{put}
+use Rattle.numbers.proofs.Puts.{by_place, put_same, put_other}
 use Rattle.search.proofs.Steps.{open_le}
 
 pub path_as : (g : Graph) {a b c d : ℕ} → a ≡ b → c ≡ d → Path g b d → Path g a c

@@ -3,11 +3,12 @@ use Rattle.std.proofs.Common.{◌≡◌, ℕ, zero, suc, ◌+◌, ◌-◌, ◌/�
 use Rattle.std.proofs.lemmas.Bool.{cases_lt}
 use Rattle.std.specs.Result.{result_err, result_unwrap_or}
 use Rattle.graph.specs.Graphs.{Graph, Bounded}
-use Rattle.search.specs.declared.records.Record.{Record}
-use Rattle.search.specs.declared.searches.Progress.{Progress}
-use Rattle.search.specs.Changes.{Risen}
+use Rattle.records.specs.declared.record.Record.{Record}
+use Rattle.search.specs.Progress.{Progress}
+use Rattle.records.specs.WorkTables.{Risen}
 use Rattle.search.specs.Searches.{Searching, Holds, Stepped, GoesOn}
-use Rattle.search.specs.Tables.{node_at, letter_at, measure_at, low_at, up_at}
+use Rattle.records.specs.Tables.{node_at, letter_at, measure_at}
+use Rattle.search.specs.Links.{low_at, up_at}
 use Rattle.search.specs.Trees.{Used, Held, Done, DoneTold, Tree}
 use Rattle.search.specs.Weights.{Rooted, Assessed, Assessment, ComponentTold, Retired, HasRetired}
 use Rattle.search.proofs.Finished.{done_quiet, keeps_nodes}
@@ -21,19 +22,23 @@ module _ (g : Graph) (s top cur d : ℕ) (found : Option ℕ) (was work : List R
   q : Searching g s top cur here.here.from was
   q = here.here.going
 
+  -- the stack that is left
+  below_kept : (k : ℕ) → k < cur → (node_at work k ≡ node_at was k) × (letter_at work k ≡ letter_at was k) × (measure_at work k ≡ measure_at was k)
+  below_kept k h = risen.below k (omega (arith, h, gap, here.here.going.tree.inside))
+
   shift : Shifted s top (length was) cur d (node_at was) (node_at work)
   shift =
       record {
-        below = λ k h. (risen.below k h).0;
+        below = λ k h. (below_kept k h).0;
         moved = λ k lo hi. subst (λ y. node_at work (k + y) ≡ node_at was k) d-is (risen.moved k lo hi).0;
         done = λ k lo hi. (risen.done k lo hi).0;
       }
 
   given : (k : ℕ) → cur ≤ k → k < s → measure_at work (k + d) ≡ m
-  given k lo hi = subst (λ y. measure_at work (k + y) ≡ m) d-is (risen.moved k lo hi).1
+  given k lo hi = subst (λ y. measure_at work (k + y) ≡ m) d-is (risen.moved k lo hi).2
 
   kept : (i : ℕ) → top ≤ i → i < length was → measure_at work i ≡ measure_at was i
-  kept i lo hi = (risen.done i lo hi).1
+  kept i lo hi = (risen.done i lo hi).2
 
   pub retired_held : Held g cur (cur + d) (length was) (node_at work)
   retired_held = held_pop g s top (length was) cur d (node_at was) (node_at work) gap here.here.going.tree.inside shift here.here.going.held
@@ -60,7 +65,7 @@ module _ (g : Graph) (s top cur d : ℕ) (found : Option ℕ) (was work : List R
       (letter_at was) (low_at was) (up_at was) here.here.going.at (measure_at was) (measure_at work) m found
       here.here.going.tree here.here.explored here.root here.here.done kept given
       pos (letter_at work) (low_at work) (up_at work)
-      (λ k h. (risen.below k h).1) (λ k h. ap (λ y. y % 65536) (risen.below k h).2) (λ k h. ap (λ y. y / 65536) (risen.below k h).2)
+      (λ k h. (below_kept k h).1) (λ k h. ap (λ y. y % 65536) (below_kept k h).2) (λ k h. ap (λ y. y / 65536) (below_kept k h).2)
 
   pub retired_keeps : (v : ℕ) → Holds s top was v → (i : ℕ) × Used cur (cur + d) (length was) i × (node_at work i ≡ v)
   retired_keeps v (i, used, is) =
@@ -100,7 +105,7 @@ retired g s top cur found was work m f len here worth risen =
           };
       parent =
           λ pos. let u = parent_of g s top cur here.here.from was here.here.going pos in
-          (u.below, omega (arith, (risen.below (up_at was cur) u.below).1, u.left));
+          (u.below, omega (arith, (risen.below (up_at was cur) (omega (arith, u.below, inside, stack))).1, u.left));
       keeps =
           λ v h. let k = retired_keeps g s top cur (top - s) found was work m f here worth risen gap refl v h in
           (k.0, (omega (arith, k.1.0), ⊎_elim (λ (a : k.0 < cur). inl a) (λ (b : cur + (top - s) ≤ k.0). inr (omega arith)) k.1.1), k.2);

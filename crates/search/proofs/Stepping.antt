@@ -1,14 +1,14 @@
 -- A step begins by looking at edges, which changes the current place's record alone.
 use Rattle.std.proofs.Common.{◌≡◌, ℕ, ◌<◌, ◌≤◌, List, length, Ok, Err, Result, sym, subst, arith, MatchResult}
-use Rattle.fault.specs.declared.SearchFault.{SearchFault}
-use Rattle.fault.specs.declared.SearchFault.TheVariants.{Table, Full}
+use Rattle.records.specs.declared.faults.SearchFault.{SearchFault}
+use Rattle.records.specs.declared.faults.SearchFault.TheVariants.{Table, Full}
 use Rattle.graph.specs.Graphs.{Graph}
 use Rattle.graph.specs.Walks.{More}
-use Rattle.search.specs.declared.records.Record.{Record}
-use Rattle.search.specs.declared.searches.Progress.{Progress}
+use Rattle.records.specs.declared.record.Record.{Record}
+use Rattle.search.specs.Progress.{Progress}
 use Rattle.search.specs.Changes.{Quiet}
 use Rattle.search.specs.Searches.{Searching, Explored, Going, Stepped, Fresh, Entered, Crowded, TooMany, IsFurther}
-use Rattle.search.specs.Tables.{node_at, letter_at, measure_at}
+use Rattle.records.specs.Tables.{node_at, letter_at, measure_at}
 use Rattle.search.specs.Trees.{Done}
 use Rattle.search.proofs.Entering.{step_entered, step_crowded}
 use Rattle.search.proofs.Finished.{done_quiet, keeps_nodes}

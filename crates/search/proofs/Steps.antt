@@ -3,8 +3,10 @@ use Rattle.std.proofs.Common.{◌≡◌, ℕ, zero, suc, ◌<◌, ◌≤◌, ◌
 use Rattle.std.proofs.lemmas.Bool.{cases_lt}
 use Rattle.graph.specs.Graphs.{Graph}
 use Rattle.graph.specs.Walks.{Path}
-use Rattle.search.specs.Trees.{At, Upto, Open, Under, Tree, put}
-use Rattle.search.proofs.Puts.{by_place, put_same, put_other}
+use Rattle.records.specs.Tables.{At}
+use Rattle.search.specs.Trees.{Upto, Open, Under, Tree}
+use Rattle.numbers.specs.Puts.{put}
+use Rattle.numbers.proofs.Puts.{by_place, put_same, put_other}
 
 -- an open place is not above the current one
 pub open_le : (g : Graph) (s top n cur u : ℕ) (node letter low up at : ℕ → ℕ)

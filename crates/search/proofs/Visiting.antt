@@ -1,19 +1,21 @@
 -- A search from a start, and from every start.
 use Rattle.std.proofs.Common.{◌≡◌, ℕ, ◌+◌, ◌-◌, ◌<◌, ◌≤◌, true, List, length, Some, None, Option, sym, refl, ap, ◌∙◌, subst, inr, ⊎_elim, arith}
-use Rattle.fault.specs.declared.SearchFault.{SearchFault}
-use Rattle.fault.specs.declared.SearchFault.TheVariants.{Table, Full}
+use Rattle.records.specs.declared.faults.SearchFault.{SearchFault}
+use Rattle.records.specs.declared.faults.SearchFault.TheVariants.{Table, Full}
 use Rattle.graph.specs.Graphs.{Graph}
 use Rattle.graph.specs.Walks.{Edge, Reach, begin, go, Measure, More}
 use Rattle.graph.proofs.Counting.{not_more}
 use Rattle.graph.proofs.Paths.{no_measure}
-use Rattle.search.specs.declared.records.Record.{Record}
-use Rattle.search.specs.declared.searches.Progress.{Progress}
-use Rattle.search.specs.Changes.{Settled}
+use Rattle.records.specs.declared.record.Record.{Record}
+use Rattle.search.specs.Progress.{Progress}
+use Rattle.records.specs.WorkTables.{Settled}
 use Rattle.graph.specs.Ascending.{Passed, Next}
 use Rattle.search.specs.Searches.{Going, Holds, Entered, Crowded, TooMany, Visited, Swept}
 use Rattle.search.specs.Surveys.{Collected, Told}
-use Rattle.search.specs.Tables.{node_at, letter_at, measure_at, low_at, up_at}
-use Rattle.search.specs.Trees.{At, Used, DoneTold, Tree, put}
+use Rattle.records.specs.Tables.{node_at, letter_at, measure_at, At}
+use Rattle.search.specs.Links.{low_at, up_at}
+use Rattle.search.specs.Trees.{Used, DoneTold, Tree}
+use Rattle.numbers.specs.Puts.{put}
 use Rattle.search.proofs.Entering.{crowded, going_pushed, tree_start}
 
 -- with an empty stack, what is not done the table does not have
@@ -71,7 +73,7 @@ all_done g q work swept w (go {v} r e) =
 module _ (g : Graph) (q : Progress) (mid work : List Record) (len : length work ≡ length mid) (swept : Swept g mid q)
     (settled : Settled q.top mid work) where
   node_is : (i : ℕ) → i < length mid - q.top → node_at work i ≡ node_at mid (q.top + i)
-  node_is i h = ap (λ r. r.node) (settled i h)
+  node_is i h = ap (λ r. r.node) (settled.front i h)
 
   used : (i : ℕ) → i < length mid - q.top → Used q.size q.top (length mid) (q.top + i)
   used i h = (omega arith, inr (omega arith))
@@ -96,7 +98,7 @@ module _ (g : Graph) (q : Progress) (mid work : List Record) (len : length work 
     λ (v, c). let (j, lo, hi, is) = all_done g q mid swept v c.reached in
         no_measure g v (measure_at mid j) c.marked c.cycle (subst (λ y. Measure g y (measure_at mid j)) is (measures j lo hi)),
     λ i h. subst (λ y. Measure g y (measure_at work i)) (sym (node_is i h))
-        (subst (λ y. Measure g (node_at mid (q.top + i)) y) (sym (ap (λ r. r.measure) (settled i h))) (measures (q.top + i) (omega arith) (omega arith))),
+        (subst (λ y. Measure g (node_at mid (q.top + i)) y) (sym (ap (λ r. r.measure) (settled.front i h))) (measures (q.top + i) (omega arith) (omega arith))),
   )
   told_from (Some v) told = told
 

@@ -2,12 +2,12 @@
 use Rattle.std.proofs.Common.{◌≡◌, ℕ, ◌+◌, ◌<◌, ◌≤◌, max, true, ◌⊎◌, List, length, Some, Option, sym, refl, ◌∙◌, subst, inl, inr, ⊎_elim, arith}
 use Rattle.std.proofs.lemmas.Bool.{cases_eq, cases_lt}
 use Rattle.graph.specs.Graphs.{Graph}
-use Rattle.graph.specs.Walks.{Edge}
-use Rattle.search.specs.declared.records.Record.{Record}
+use Rattle.graph.specs.Walks.{Edge, ByLetters}
+use Rattle.records.specs.declared.record.Record.{Record}
 use Rattle.graph.specs.Ascending.{Next}
-use Rattle.search.specs.Tables.{node_at, measure_at}
+use Rattle.records.specs.Tables.{node_at, measure_at}
 use Rattle.search.specs.Trees.{Follows, Heavy}
-use Rattle.search.specs.Weights.{Weight, Apart, Below, ByLetters}
+use Rattle.search.specs.Weights.{Weight, Apart, Below}
 
 module _ (top n : ℕ) (node measure : ℕ → ℕ) where
   pub heavy_max : (P Q R : ℕ → Type 0) (b c : ℕ)

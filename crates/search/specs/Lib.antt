@@ -1,9 +1,7 @@
-pub mod Tables
+pub mod Links
+pub mod Progress
 pub mod Surveys
 pub mod Trees
 pub mod Changes
 pub mod Searches
 pub mod Weights
-pub mod Queues
-pub mod Paths
-pub mod Lassos

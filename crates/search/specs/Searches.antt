@@ -1,15 +1,16 @@
 -- A search on its way: what holds of its table, and what its steps make of it.
 use Rattle.std.specs.Prelude.{◌≡◌, ℕ, ◌+◌, ◌-◌, ◌*◌, ◌^◌, ◌<◌, ◌≤◌, true, ◌⊎◌, List, length, set, Some, None, Option, ◌≢◌}
-use Rattle.fault.specs.declared.SearchFault.{SearchFault}
-use Rattle.fault.specs.declared.SearchFault.TheVariants.{Table, Full}
+use Rattle.records.specs.declared.faults.SearchFault.{SearchFault}
+use Rattle.records.specs.declared.faults.SearchFault.TheVariants.{Full}
 use Rattle.graph.specs.Graphs.{Graph}
-use Rattle.graph.specs.Least.{Least}
+use Rattle.numbers.specs.Least.{Least}
 use Rattle.graph.specs.Walks.{More}
-use Rattle.search.specs.declared.records.Record.{Record}
+use Rattle.records.specs.declared.record.Record.{Record}
 use Rattle.search.specs.Changes.{Changed, Quiet}
-use Rattle.search.specs.declared.searches.Progress.{Progress}
-use Rattle.search.specs.Tables.{node_at, letter_at, measure_at, low_at, up_at}
-use Rattle.search.specs.Trees.{At, Used, Held, Done, Tree}
+use Rattle.search.specs.Progress.{Progress}
+use Rattle.records.specs.Tables.{node_at, letter_at, measure_at, At}
+use Rattle.search.specs.Links.{low_at, up_at}
+use Rattle.search.specs.Trees.{Used, Held, Done, Tree}
 
 -- the stack is below s, what is done is from top on, and the search goes on at place cur and node `from`
 pub record Searching (g : Graph) (s top cur from : ℕ) (work : List Record) : Type 0 where
@@ -82,13 +83,13 @@ Entered p next was work q =
 
 -- there is no room for one
 abbrev pub Crowded : Progress → SearchFault → Type 0
-Crowded p Table = ⊥
 Crowded p Full = p.size ≡ p.top
+Crowded p _ = ⊥
 
 -- more nodes can be reached than a table of n records has room for
 abbrev pub TooMany : Graph → ℕ → SearchFault → Type 0
-TooMany g n Table = ⊥
 TooMany g n Full = More g n
+TooMany g n _ = ⊥
 
 -- where a place goes on behind a node
 abbrev pub Resumed : ℕ → ℕ → List Record → List Record → ℕ → Type 0

@@ -1,17 +1,13 @@
 -- What a search of a graph promises: it says nothing of the way.
 use Rattle.std.specs.Prelude.{◌≡◌, ℕ, ◌<◌, ◌≤◌, List, length, Some, None, Option}
-use Rattle.fault.specs.declared.SearchFault.{SearchFault}
-use Rattle.fault.specs.declared.SearchFault.TheVariants.{Table, Full}
+use Rattle.records.specs.declared.faults.SearchFault.{SearchFault}
+use Rattle.records.specs.declared.faults.SearchFault.TheVariants.{Table, Full}
 use Rattle.graph.specs.Graphs.{Graph}
 use Rattle.graph.specs.Walks.{Reach, Recurring, MarkedCycle, More, Measure}
-use Rattle.search.specs.declared.records.Record.{Record}
+use Rattle.records.specs.Sizes.{Allowed}
+use Rattle.records.specs.declared.record.Record.{Record}
 use Rattle.search.specs.declared.surveys.Findings.{Findings}
-use Rattle.search.specs.Tables.{node_at, measure_at}
-
--- a work table may have so many records
-pub record Allowed (n : ℕ) : Type 0 where
-  pub some_records : 1 ≤ n
-  pub few_records : n ≤ 65536
+use Rattle.records.specs.Tables.{node_at, measure_at}
 
 -- the first `count` records of the table hold each reachable node once
 pub record Collected (g : Graph) (count : ℕ) (work : List Record) : Type 0 where
@@ -33,10 +29,6 @@ pub record Surveyed (g : Graph) (work : List Record) (r : Findings) : Type 0 whe
   pub told : Told g r.count work r.witness
   -- so there are not too many nodes
   pub room : More g (length work) → ⊥
-
-abbrev pub TableRefused : ℕ → SearchFault → Type 0
-TableRefused n Table = Allowed n → ⊥
-TableRefused n Full = ⊥
 
 -- Refused: the table is as it was where its length is not allowed; else there are too many nodes for it.
 abbrev pub Refused : Graph → List Record → List Record → SearchFault → Type 0

@@ -1,13 +1,10 @@
 -- What holds while a search goes on; a reader of the promise can pass over it. The table has n records. Those below s
 -- are the stack, in the order in which their nodes were found; those from top on are done. A place on the stack is
 -- open if it is the current one, or has letters left to look at.
-use Rattle.std.specs.Prelude.{◌≡◌, ℕ, zero, suc, ◌-◌, ◌<◌, ◌≤◌, true, cond, ◌⊎◌, Some, None, Option, ◌==◌}
+use Rattle.std.specs.Prelude.{◌≡◌, ℕ, zero, suc, ◌-◌, ◌<◌, ◌≤◌, true, ◌⊎◌, Some, None, Option}
 use Rattle.graph.specs.Graphs.{Graph}
 use Rattle.graph.specs.Walks.{Edge, Reach, Path, Recurring, Measure}
-
--- some place from a on and below b has node w
-abbrev pub At : (ℕ → ℕ) → ℕ → ℕ → ℕ → Type 0
-At node a b w = (j : ℕ) × (a ≤ j) × (j < b) × (node j ≡ w)
+use Rattle.records.specs.Tables.{At}
 
 -- place i is in use
 abbrev pub Used : ℕ → ℕ → ℕ → ℕ → Type 0
@@ -71,7 +68,3 @@ Follows g node a b w = (u : ℕ) × (a ≤ u) × (u < b) × Edge g (node u) w
 pub record Heavy (P : ℕ → Type 0) (top n : ℕ) (node measure : ℕ → ℕ) (m : ℕ) : Type 0 where
   pub most : (w j : ℕ) → P w → top ≤ j → j < n → node j ≡ w → measure j ≤ m
   pub met : (m ≡ 0) ⊎ ((w : ℕ) × (j : ℕ) × P w × (top ≤ j) × (j < n) × (node j ≡ w) × (measure j ≡ m))
-
--- f with another value at one place
-abbrev pub put : (ℕ → ℕ) → ℕ → ℕ → ℕ → ℕ
-put f i x u = cond (u == i) x (f u)

@@ -2,12 +2,13 @@
 use Rattle.std.specs.Prelude.{◌≡◌, ℕ, suc, ◌+◌, ◌-◌, ◌<◌, ◌≤◌, true, ◌⊎◌, List, length, Some, None, Option, Ok, Err, Result, ◌≢◌}
 use Rattle.graph.specs.Graphs.{Graph}
 use Rattle.graph.specs.Walks.{Recurring, Measure}
-use Rattle.search.specs.declared.records.Record.{Record}
-use Rattle.search.specs.declared.searches.Progress.{Progress}
+use Rattle.records.specs.declared.record.Record.{Record}
+use Rattle.search.specs.Progress.{Progress}
 use Rattle.graph.specs.Ascending.{Passed}
 use Rattle.search.specs.Searches.{Explored, Searching, Keeps}
-use Rattle.search.specs.Tables.{node_at, letter_at, measure_at, low_at, up_at}
-use Rattle.search.specs.Trees.{At, Held, Done}
+use Rattle.records.specs.Tables.{node_at, letter_at, measure_at, At}
+use Rattle.search.specs.Links.{low_at, up_at}
+use Rattle.search.specs.Trees.{Held, Done}
 
 -- r is the measure of the done place that has the node, or 0 where none has it
 abbrev pub Weight : ℕ → ℕ → List Record → ℕ → Type 0
@@ -23,10 +24,6 @@ Apart top work =
 -- v leads to w by the letter, and w is passed
 abbrev pub Below : Graph → ℕ → ℕ → Option ℕ → ℕ → Type 0
 Below g v l from w = (g.edge v l w ≡ true) × Passed from w
-
--- v leads to w by a letter below l
-abbrev pub ByLetters : Graph → ℕ → ℕ → ℕ → Type 0
-ByLetters g v l w = (k : ℕ) × (k < l) × (g.edge v k w ≡ true)
 
 -- no place from cur on and below s has a marked node
 abbrev pub Unmarked : Graph → ℕ → ℕ → List Record → Type 0

@@ -1,8 +1,8 @@
 // The starts, and the nodes that edges lead to, each once and in rising order.
-use crate::Ends;
-use crate::samples::plain;
+use crate::expected::plain;
 use graph::{ImplicitGraph, Map, Nodes};
 use lasso::NO_WORD;
+use samples::Ends;
 use std::process::Abort;
 
 // These come, and then no more.
@@ -16,35 +16,22 @@ fn come<M: Map>(rt: &impl Abort, map: &M, nodes: Nodes, expected: &[u64]) {
     assert_eq!(rt; rising.next(), None);
 }
 
+// The starts; then node 2, which leads to 0, to itself and to 63, by the one letter. Behind the greatest number there is no other.
 #[test]
-fn starts(rt: HostRuntime) {
+fn nodes(rt: HostRuntime) {
     come(&rt, &plain(0b1010_0001, 0, &[]), Nodes::Starts, &[0, 5, 7]);
-    come(&rt, &plain(1 << 63, 0, &[]), Nodes::Starts, &[63]);
     come(&rt, &plain(0, 0, &[0b1]), Nodes::Starts, &[]);
-}
-
-// Node 2 leads to 0, to itself and to 63, by the one letter.
-#[test]
-fn successors(rt: HostRuntime) {
     let map = plain(0b1, 0, &[0b10, 0, 1 << 63 | 0b101]);
     come(&rt, &map, Nodes::Successors(2, 0), &[0, 2, 63]);
-    come(&rt, &map, Nodes::Successors(0, 0), &[1]);
     come(&rt, &map, Nodes::Successors(1, 0), &[]);
     come(&rt, &map, Nodes::Successors(2, 1), &[]);
-    come(&rt, &map, Nodes::Successors(3, 0), &[]);
-}
-
-// Behind the greatest number there is no other.
-#[test]
-fn greatest_node(rt: HostRuntime) {
-    let map = Ends {
+    let ends = Ends {
         loops: true,
         marked: false,
     };
-    come(&rt, &map, Nodes::Starts, &[0, u64::MAX]);
-    come(&rt, &map, Nodes::Successors(0, 0), &[u64::MAX]);
-    come(&rt, &map, Nodes::Successors(u64::MAX, 1), &[u64::MAX]);
-    come(&rt, &map, Nodes::Successors(u64::MAX, 2), &[]);
+    come(&rt, &ends, Nodes::Starts, &[0, u64::MAX]);
+    come(&rt, &ends, Nodes::Successors(u64::MAX, 1), &[u64::MAX]);
+    come(&rt, &ends, Nodes::Successors(u64::MAX, 2), &[]);
 }
 
 // Node 2 is a marked one that leads to itself and to 63, and no start.

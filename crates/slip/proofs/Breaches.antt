@@ -2,14 +2,14 @@
 use Rattle.std.proofs.Common.{◌≡◌, ℕ, ◌<◌, ◌≤◌, cond, ◌==◌, refl, sym, ap, ◌∙◌, subst, ⊎_elim, arith}
 use Rattle.std.proofs.lemmas.Bool.{cases_lt}
 use Rattle.graph.specs.Graphs.{Graph}
-use Rattle.rules.specs.Numbered.{rule_kind, rule_number}
-use Rattle.rules.specs.declared.Breach.{Breach}
-use Rattle.rules.specs.declared.BreakRule.TheVariants as breaks
-use Rattle.rules.specs.declared.KeepRule.TheVariants as keeps
-use Rattle.rules.specs.declared.Kind.{Kind}
-use Rattle.rules.specs.declared.Kind.TheVariants.{Keep, Break}
-use Rattle.rules.specs.declared.Rule.{Rule}
-use Rattle.rules.specs.declared.Rule.TheVariants as of
+use Rattle.slip.specs.Numbered.{rule_kind, rule_number}
+use Rattle.slip.specs.declared.kinds.Breach.{Breach}
+use Rattle.slip.specs.declared.kinds.BreakRule.TheVariants as breaks
+use Rattle.slip.specs.declared.kinds.KeepRule.TheVariants as keeps
+use Rattle.slip.specs.declared.kinds.Kind.{Kind}
+use Rattle.slip.specs.declared.kinds.Kind.TheVariants.{Keep, Break}
+use Rattle.slip.specs.declared.kinds.Rule.{Rule}
+use Rattle.slip.specs.declared.kinds.Rule.TheVariants as of
 use Rattle.slip.specs.Certificates.{Certificate}
 use Rattle.slip.specs.Rules.{Holds, Meets, FirstBreach}
 

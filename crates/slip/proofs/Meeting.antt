@@ -4,16 +4,16 @@ use Rattle.graph.specs.Graphs.{Graph, Bounded}
 use Rattle.graph.specs.Walks.{Edge, begin, go, mark, Measure}
 use Rattle.graph.specs.Witnesses.{MarkedLasso}
 use Rattle.graph.proofs.Paths.{measure_path, path_edge, reach_node}
-use Rattle.rules.specs.declared.BreakRule.TheVariants as breaks
-use Rattle.rules.specs.declared.KeepRule.{KeepRule}
-use Rattle.rules.specs.declared.KeepRule.TheVariants as keeps
-use Rattle.rules.specs.declared.Kind.TheVariants.{Keep, Break}
-use Rattle.rules.specs.declared.BreakRule.{BreakRule}
-use Rattle.rules.specs.declared.Rule.TheVariants as of
-use Rattle.search.specs.declared.records.Record.{Record}
-use Rattle.search.specs.Tables.{node_at, letter_at, measure_at}
+use Rattle.slip.specs.declared.kinds.BreakRule.TheVariants as breaks
+use Rattle.slip.specs.declared.kinds.KeepRule.{KeepRule}
+use Rattle.slip.specs.declared.kinds.KeepRule.TheVariants as keeps
+use Rattle.slip.specs.declared.kinds.Kind.TheVariants.{Keep, Break}
+use Rattle.slip.specs.declared.kinds.BreakRule.{BreakRule}
+use Rattle.slip.specs.declared.kinds.Rule.TheVariants as of
+use Rattle.records.specs.declared.record.Record.{Record}
+use Rattle.records.specs.Tables.{node_at, letter_at, measure_at}
 use Rattle.slip.specs.Rules.{KeepHolds, BreakHolds, Meets}
-use Rattle.slip.specs.Showing.{Measured}
+use Rattle.slip.specs.Measured.{Measured}
 
 -- along an edge from a marked node measures fall
 measure_falls : (g : Graph) (v w m k : ℕ) → g.marked v ≡ true → Measure g v m → Measure g w k → Edge g v w → k < m

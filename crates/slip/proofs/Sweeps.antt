@@ -2,8 +2,8 @@
 use Rattle.std.proofs.Common.{◌≡◌, ℕ, ◌+◌, ◌-◌, ◌<◌, ◌≤◌, Bool, true, List, length, drop, get_or, Decides, sym, ap, ◌∙◌, subst, arith, length-drop}
 use Rattle.std.proofs.lemmas.List.{get_or-drop}
 use Rattle.graph.specs.Graphs.{Graph}
-use Rattle.search.specs.declared.records.Record.{Record}
-use Rattle.search.specs.Tables.{blank, node_at}
+use Rattle.records.specs.declared.record.Record.{Record}
+use Rattle.records.specs.Tables.{blank, node_at}
 
 -- whether a record from a place on has a marked node
 pub marked_behind : (g : Graph) (rs : List Record) (p : ℕ) (r : Bool)

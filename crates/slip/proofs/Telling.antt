@@ -1,28 +1,22 @@
--- A slip over the ranked graph that meets its rules shows what its kind says.
+-- What a slip that meets its rules shows of its graph: a keep slip has falling measures, and a break slip is a marked lasso, whose
+-- letters are a word.
 use Rattle.std.proofs.Common.{◌≡◌, ℕ, ◌<◌, true, List, length, refl, sym, subst, arith}
 use Rattle.std.specs.Prelude.{slice_index}
 use Rattle.std.proofs.lemmas.List.{get_or-map, length-map}
-use Rattle.chart.specs.Automata.{Automaton}
 use Rattle.graph.specs.Graphs.{Graph}
 use Rattle.graph.specs.Witnesses.{FallingMeasures, MarkedLasso}
 use Rattle.lasso.specs.Positions.{after}
 use Rattle.lasso.specs.Words.{IsWord}
-use Rattle.rank.specs.Containment.{Charts}
-use Rattle.rank.specs.Ranked.{ranked_graph}
-use Rattle.rank.proofs.Deciding.{lassos_tell, measures_tell}
-use Rattle.rules.specs.declared.BreakRule.TheVariants as breaks
-use Rattle.rules.specs.declared.KeepRule.TheVariants as keeps
-use Rattle.rules.specs.declared.Kind.{Kind}
-use Rattle.rules.specs.declared.Kind.TheVariants.{Keep, Break}
-use Rattle.rules.specs.declared.Rule.{Rule}
-use Rattle.rules.specs.declared.Rule.TheVariants as of
-use Rattle.search.specs.declared.records.Record.{Record}
-use Rattle.search.specs.Tables.{blank, node_at, letter_at, measure_at}
-use Rattle.slip.specs.Certificates.{Certificate, content}
-use Rattle.slip.specs.Rules.{HoldsFor, Meets}
+use Rattle.slip.specs.declared.kinds.BreakRule.TheVariants as breaks
+use Rattle.slip.specs.declared.kinds.KeepRule.TheVariants as keeps
+use Rattle.slip.specs.declared.kinds.Kind.TheVariants.{Keep, Break}
+use Rattle.slip.specs.declared.kinds.Rule.{Rule}
+use Rattle.slip.specs.declared.kinds.Rule.TheVariants as of
+use Rattle.records.specs.declared.record.Record.{Record}
+use Rattle.records.specs.Tables.{blank, node_at, letter_at, measure_at}
+use Rattle.slip.specs.Rules.{HoldsFor}
 use Rattle.slip.specs.Shapes.{Shaped}
-use Rattle.slip.specs.declared.slips.Slip.{Slip}
-use Rattle.slip.specs.Showing.{letters, Shows, ShowsFor}
+use Rattle.slip.specs.Measured.{letters}
 
 pub keep_falls : (g : Graph) (stem : ℕ) (rs : List Record) → ((p : ℕ) (r : Rule) → HoldsFor g Keep stem rs p r)
     → FallingMeasures g (node_at rs) (measure_at rs) (length rs)
@@ -73,17 +67,3 @@ module _ (g : Graph) (stem : ℕ) (rs : List Record) (shaped : Shaped Break (len
             let inside : k < length rs = omega (arith, same_length) in
             omega (arith, letter_same rs k inside, (meets k (of.Break breaks.Node) inside).1);
       }
-
-module _ (a b : Automaton) (charts : Charts a b) where
-  meets_shows_for : (kind : Kind) (stem : ℕ) (rs : List Record) → Shaped kind (length rs) stem
-      → ((p : ℕ) (r : Rule) → HoldsFor (ranked_graph a b) kind stem rs p r) → ShowsFor a b kind stem rs
-  meets_shows_for Keep stem rs shaped meets =
-      (measures_tell a b charts (node_at rs) (measure_at rs) (length rs) (keep_falls (ranked_graph a b) stem rs meets)).1
-  meets_shows_for Break stem rs shaped meets = (
-    break_word (ranked_graph a b) stem rs shaped meets,
-    lassos_tell a b charts (node_at rs) (letters rs) stem (break_lasso (ranked_graph a b) stem rs shaped meets),
-  )
-
-pub meets_shows : (a b : Automaton) → Charts a b → (c : Certificate) → Shaped c.kind (length c.records) c.stem
-    → Meets (ranked_graph a b) c → Shows a b c
-meets_shows a b charts c shaped meets = meets_shows_for a b charts c.kind c.stem c.records shaped meets

@@ -2,12 +2,12 @@
 use Rattle.std.specs.Prelude.{◌≡◌, ℕ, ◌+◌, ◌<◌, Bool, true, false, List, length, Some, None, Option, slice_index_or}
 use Rattle.graph.specs.Graphs.{Graph}
 use Rattle.graph.specs.Implicit.{graph_of}
-use Rattle.rules.specs.Numbered.{rule_kind, rule_number}
-use Rattle.rules.specs.declared.BreakRule.{BreakRule}
-use Rattle.rules.specs.declared.KeepRule.{KeepRule}
-use Rattle.rules.specs.declared.Rule.{Rule}
-use Rattle.search.specs.declared.records.Record.{Record}
-use Rattle.search.specs.Tables.{blank, node_at, measure_at}
+use Rattle.slip.specs.Numbered.{rule_kind, rule_number}
+use Rattle.slip.specs.declared.kinds.BreakRule.{BreakRule}
+use Rattle.slip.specs.declared.kinds.KeepRule.{KeepRule}
+use Rattle.slip.specs.declared.kinds.Rule.{Rule}
+use Rattle.records.specs.declared.record.Record.{Record}
+use Rattle.records.specs.Tables.{blank, node_at, measure_at}
 use Rattle.slip.specs.Certificates.{Certificate}
 use Rattle.slip.specs.Rules.{KeepHolds, BreakHolds, Holds}
 use Rattle.slip.specs.declared.inspection.Inspection.{Inspection}

@@ -1,7 +1,7 @@
 -- What a slip holds.
 use Rattle.std.specs.Prelude.{ℕ, List}
-use Rattle.rules.specs.declared.Kind.{Kind}
-use Rattle.search.specs.declared.records.Record.{Record}
+use Rattle.slip.specs.declared.kinds.Kind.{Kind}
+use Rattle.records.specs.declared.record.Record.{Record}
 use Rattle.slip.specs.declared.slips.Slip.{Slip}
 
 pub record Certificate : Type 0 where

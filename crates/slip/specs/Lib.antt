@@ -1,7 +1,9 @@
+pub mod Numbered
+pub mod Shown
 pub mod Shapes
 pub mod Refusals
 pub mod Refused
 pub mod Certificates
 pub mod Rules
-pub mod Showing
+pub mod Measured
 pub mod Asked

@@ -1,8 +1,10 @@
--- The numbers by which a slip is refused.
-use Rattle.fault.specs.Refusals.{Refusal, told, lasso_refusal}
+-- What a reader is told where a slip is refused.
+use Rattle.fault.specs.Refusals.{plain}
+use Rattle.fault.specs.declared.Refusal.{Refusal}
+use Rattle.lasso.specs.Refusals.{lasso_refusal}
 use Rattle.slip.specs.declared.faults.SlipFault.{SlipFault}
 use Rattle.slip.specs.declared.faults.SlipFault.TheVariants.{Lasso, Shape}
 
 abbrev pub slip_refusal : SlipFault → Refusal
 slip_refusal (Lasso e) = lasso_refusal e
-slip_refusal Shape = told 9 0
+slip_refusal Shape = plain 9

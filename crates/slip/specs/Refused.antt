@@ -1,8 +1,8 @@
 -- When a slip is refused, and which fault says so.
 use Rattle.std.specs.Prelude.{ℕ, ◌<◌, ◌≤◌}
-use Rattle.fault.specs.declared.LassoFault.{LassoFault}
-use Rattle.fault.specs.declared.LassoFault.TheVariants.{Limits, Letter}
-use Rattle.rules.specs.declared.Kind.{Kind}
+use Rattle.lasso.specs.declared.faults.LassoFault.{LassoFault}
+use Rattle.lasso.specs.declared.faults.LassoFault.TheVariants.{Limits}
+use Rattle.slip.specs.declared.kinds.Kind.{Kind}
 use Rattle.slip.specs.Shapes.{stems}
 use Rattle.slip.specs.declared.faults.SlipFault.{SlipFault}
 use Rattle.slip.specs.declared.faults.SlipFault.TheVariants.{Lasso, Shape}
@@ -10,7 +10,7 @@ use Rattle.slip.specs.declared.faults.SlipFault.TheVariants.{Lasso, Shape}
 -- a lasso could not have so many elements
 abbrev pub TooMany : ℕ → LassoFault → Type 0
 TooMany n Limits = 131072 < n
-TooMany n Letter = ⊥
+TooMany n _ = ⊥
 
 -- The number of records is refused before the loop place.
 abbrev pub SlipRefused : Kind → ℕ → ℕ → SlipFault → Type 0

@@ -2,18 +2,18 @@
 use Rattle.std.specs.Prelude.{◌≡◌, ℕ, ◌<◌, ◌≤◌, true, List, length, Option, MatchOption}
 use Rattle.graph.specs.Graphs.{Graph}
 use Rattle.lasso.specs.Positions.{after}
-use Rattle.rules.specs.Numbered.{rule_kind, rule_number}
-use Rattle.rules.specs.declared.Breach.{Breach}
-use Rattle.rules.specs.declared.BreakRule.{BreakRule}
-use Rattle.rules.specs.declared.BreakRule.TheVariants as breaks
-use Rattle.rules.specs.declared.KeepRule.{KeepRule}
-use Rattle.rules.specs.declared.KeepRule.TheVariants as keeps
-use Rattle.rules.specs.declared.Kind.{Kind}
-use Rattle.rules.specs.declared.Kind.TheVariants.{Keep, Break}
-use Rattle.rules.specs.declared.Rule.{Rule}
-use Rattle.rules.specs.declared.Rule.TheVariants as of
-use Rattle.search.specs.declared.records.Record.{Record}
-use Rattle.search.specs.Tables.{node_at, letter_at, measure_at}
+use Rattle.slip.specs.Numbered.{rule_kind, rule_number}
+use Rattle.slip.specs.declared.kinds.Breach.{Breach}
+use Rattle.slip.specs.declared.kinds.BreakRule.{BreakRule}
+use Rattle.slip.specs.declared.kinds.BreakRule.TheVariants as breaks
+use Rattle.slip.specs.declared.kinds.KeepRule.{KeepRule}
+use Rattle.slip.specs.declared.kinds.KeepRule.TheVariants as keeps
+use Rattle.slip.specs.declared.kinds.Kind.{Kind}
+use Rattle.slip.specs.declared.kinds.Kind.TheVariants.{Keep, Break}
+use Rattle.slip.specs.declared.kinds.Rule.{Rule}
+use Rattle.slip.specs.declared.kinds.Rule.TheVariants as of
+use Rattle.records.specs.declared.record.Record.{Record}
+use Rattle.records.specs.Tables.{node_at, letter_at, measure_at}
 use Rattle.slip.specs.Certificates.{Certificate}
 
 module _ (g : Graph) (rs : List Record) where

@@ -1,7 +1,7 @@
 -- Which loop places go with a kind of slip and a number of records.
 use Rattle.std.specs.Prelude.{ℕ, ◌<◌, ◌≤◌}
-use Rattle.rules.specs.declared.Kind.{Kind}
-use Rattle.rules.specs.declared.Kind.TheVariants.{Keep, Break}
+use Rattle.slip.specs.declared.kinds.Kind.{Kind}
+use Rattle.slip.specs.declared.kinds.Kind.TheVariants.{Keep, Break}
 
 -- the loop place is below this number: it is 0 for keep, and the place of one of the n records for break
 abbrev pub stems : Kind → ℕ → ℕ

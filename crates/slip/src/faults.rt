@@ -3,8 +3,8 @@ ghost use Rattle.std.specs.Prelude.{◌≡◌};
 ghost use Rattle.slip.specs.Refusals.{slip_refusal};
 ghost use Rattle.slip.specs.declared.faults.SlipFault.TheVariants as faults;
 
-use fault::{Fault, LassoFault};
-use rules::Rule;
+use fault::{Fault, Refusal};
+use lasso::LassoFault;
 
 #[derive(Clone, Copy, PartialEq, Eq, Debug)]
 pub enum SlipFault {
@@ -23,26 +23,12 @@ impl From<LassoFault> for SlipFault {
 }
 
 impl Fault for SlipFault {
-    ghost refusal = { slip_refusal };
+    ghost told = { slip_refusal };
 
-    fn number(&self) -> u8 {
+    fn refusal(&self) -> Refusal {
         match *self {
-            SlipFault::Lasso(e) => e.number(),
-            SlipFault::Shape => 9,
-        }
-    }
-
-    fn place(&self) -> usize {
-        match *self {
-            SlipFault::Lasso(e) => e.place(),
-            SlipFault::Shape => 0,
-        }
-    }
-
-    fn rule(&self) -> Option<Rule> {
-        match *self {
-            SlipFault::Lasso(e) => e.rule(),
-            SlipFault::Shape => None,
+            SlipFault::Lasso(e) => e.refusal(),
+            SlipFault::Shape => Refusal::plain(9),
         }
     }
 }

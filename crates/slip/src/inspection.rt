@@ -2,17 +2,17 @@
 ghost use Rattle.std.specs.Prelude.{◌≡◌, ℕ, ◌<◌, ◌≤◌, true, length, Decides};
 ghost use Rattle.graph.specs.Implicit.{graph_of, among};
 ghost use Rattle.lasso.specs.Positions.{after};
-ghost use Rattle.rules.specs.Numbered.{keep_number, break_number};
-ghost use Rattle.search.specs.Tables.{node_at};
+ghost use Rattle.slip.specs.Numbered.{keep_number, break_number};
+ghost use Rattle.records.specs.Tables.{node_at};
 ghost use Rattle.slip.specs.Asked.{Within, Held, limit, MeetsKeep, MeetsBreak, Lowest, LowestAt, StandsAt};
 ghost use Rattle.slip.specs.Certificates.{content};
 ghost use Rattle.slip.specs.Rules.{BreachTold};
 
+use crate::kinds::{Breach, BreakRule, KeepRule, Kind, Rule};
 use crate::slips::Slip;
 use graph::{ImplicitGraph, Map, Nodes};
 use lasso::{Lasso, Word};
-use rules::{Breach, BreakRule, KeepRule, Kind, Rule};
-use search::Record;
+use records::Record;
 
 // Is a measure below the limit, if there is one?
 fn is_within(measure: u32, limit: Option<u64>) -> bool

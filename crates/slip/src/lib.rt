@@ -3,8 +3,10 @@
 
 mod faults;
 mod inspection;
+mod kinds;
 mod slips;
 
 pub use faults::SlipFault;
-pub use search::Record;
+pub use kinds::{Breach, BreakRule, KeepRule, Kind, Rule};
+pub use records::Record;
 pub use slips::{Slip, stems};

@@ -5,9 +5,9 @@ ghost use Rattle.slip.specs.Shapes.{stems};
 ghost use Rattle.slip.specs.declared.faults.SlipFault.TheVariants as faults;
 
 use crate::faults::SlipFault;
-use fault::LassoFault;
-use rules::Kind;
-use search::Record;
+use crate::kinds::Kind;
+use lasso::LassoFault;
+use records::Record;
 
 // The loop place of a slip is below this number: it is 0 for keep, and the place of one of so many records for break.
 pub fn stems(kind: Kind, count: usize) -> usize

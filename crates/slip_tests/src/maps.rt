@@ -1,20 +1,22 @@
 // Slips over a map with the greatest node that there can be, and over one with the most letters; and the greatest measures.
 use graph::Map;
 use lasso::NO_WORD;
-use rules::{Breach, BreakRule, KeepRule, Kind, Rule};
-use search_tests::{BitGraph, Ends};
-use slip::{Record, Slip};
+use samples::{BitGraph, Ends};
+use slip::{Breach, BreakRule, KeepRule, Kind, Record, Rule, Slip};
 use std::process::Abort;
 
 const LAST: u64 = u64::MAX;
 
-// The first breach of a slip of these nodes, letters and measures.
+// A record's node, letter and measure.
+type Part = (u64, u8, u32);
+
+// The first breach of a slip of these records, which are 4 at most.
 fn says<M: Map>(
     rt: &impl Abort,
     map: &M,
     kind: Kind,
     stem: usize,
-    parts: &[(u64, u8, u32)],
+    parts: &[Part],
     rule: Option<(Rule, usize)>,
 ) {
     let mut records = [Record::default(); 4];
@@ -31,77 +33,56 @@ fn says<M: Map>(
     assert_eq!(rt; slip.first_breach(map, NO_WORD), breach);
 }
 
-const NODE: Rule = Rule::Keep(KeepRule::Node);
+// A keep slip of these records breaks this rule first, at this place, or none.
+fn keeps<M: Map>(rt: &impl Abort, map: &M, parts: &[Part], broken: Option<(KeepRule, usize)>) {
+    let rule = broken.map(|(rule, place)| (Rule::Keep(rule), place));
+    says(rt, map, Kind::Keep, 0, parts, rule);
+}
 
-const NEXT: Rule = Rule::Keep(KeepRule::Next);
+// The same of a break slip.
+fn breaks<M: Map>(
+    rt: &impl Abort,
+    map: &M,
+    stem: usize,
+    parts: &[Part],
+    broken: Option<(BreakRule, usize)>,
+) {
+    let rule = broken.map(|(rule, place)| (Rule::Break(rule), place));
+    says(rt, map, Kind::Break, stem, parts, rule);
+}
 
-const STARTS: Rule = Rule::Keep(KeepRule::Starts);
-
-// 0 and the greatest node are the starts; 0 leads to the other one.
+// 0 and the greatest node are the starts; 0 leads to the other one, which leads nowhere, or to itself.
 #[test]
-fn greatest_node_kept(rt: HostRuntime) {
-    let map = Ends {
+fn greatest_node(rt: HostRuntime) {
+    let unmarked = Ends {
         loops: false,
         marked: false,
     };
-    let keep = Kind::Keep;
-    says(&rt, &map, keep, 0, &[(0, 0, 0), (LAST, 0, 0)], None);
-    says(&rt, &map, keep, 0, &[(LAST, 0, 7), (0, 0, 7)], None);
-    says(&rt, &map, keep, 0, &[(0, 0, 0)], Some((NEXT, 0)));
-    says(&rt, &map, keep, 0, &[(LAST, 0, 0)], Some((STARTS, 1)));
-    says(&rt, &map, keep, 0, &[(1, 0, 0)], Some((NODE, 0)));
-    says(
-        &rt,
-        &map,
-        keep,
-        0,
-        &[(LAST, 0, 0), (LAST - 1, 0, 0)],
-        Some((NODE, 1)),
-    );
-}
-
-// Where it is marked, and leads nowhere or to itself.
-#[test]
-fn greatest_node_marked(rt: HostRuntime) {
-    let still = Ends {
-        loops: false,
-        marked: true,
-    };
-    let keep = Kind::Keep;
-    says(&rt, &still, keep, 0, &[(0, 0, 1), (LAST, 0, 0)], None);
-    says(
-        &rt,
-        &still,
-        keep,
-        0,
-        &[(0, 0, 1), (LAST, 0, 1)],
-        Some((NEXT, 0)),
-    );
+    keeps(&rt, &unmarked, &[(LAST, 0, 7), (0, 0, 7)], None);
+    keeps(&rt, &unmarked, &[(0, 0, 0)], Some((KeepRule::Next, 0)));
+    keeps(&rt, &unmarked, &[(LAST, 0, 0)], Some((KeepRule::Starts, 1)));
+    let other = [(LAST, 0, 0), (LAST - 1, 0, 0)];
+    keeps(&rt, &unmarked, &other, Some((KeepRule::Node, 1)));
     let round = Ends {
         loops: true,
         marked: true,
     };
-    says(
+    let falling = [(0, 0, 1), (LAST, 0, 0)];
+    keeps(&rt, &round, &falling, Some((KeepRule::Next, 1)));
+    breaks(&rt, &round, 1, &[(0, 1, 0), (LAST, 0, 0)], None);
+    breaks(
         &rt,
         &round,
-        keep,
-        0,
-        &[(0, 0, 1), (LAST, 0, 0)],
-        Some((NEXT, 1)),
-    );
-    let next = Rule::Break(BreakRule::Next);
-    let kind = Kind::Break;
-    says(&rt, &round, kind, 1, &[(0, 1, 0), (LAST, 0, 0)], None);
-    says(&rt, &round, kind, 0, &[(LAST, 1, 0)], None);
-    says(&rt, &still, kind, 0, &[(LAST, 1, 0)], Some((next, 0)));
-    says(
-        &rt,
-        &round,
-        kind,
         0,
         &[(0, 1, 0), (LAST, 0, 0)],
-        Some((next, 1)),
+        Some((BreakRule::Next, 1)),
     );
+    let still = Ends {
+        loops: false,
+        marked: true,
+    };
+    keeps(&rt, &still, &falling, None);
+    breaks(&rt, &still, 0, &[(LAST, 1, 0)], Some((BreakRule::Next, 0)));
 }
 
 // Node 0 leads to itself by the last of 255 letters, and is marked.
@@ -115,13 +96,10 @@ fn letters(rt: HostRuntime) {
         marks: 0b1,
         rows: &rows,
     };
-    let kind = Kind::Break;
-    says(&rt, &map, kind, 0, &[(0, 254, 0)], None);
-    let next = Rule::Break(BreakRule::Next);
-    says(&rt, &map, kind, 0, &[(0, 253, 0)], Some((next, 0)));
-    let node = Rule::Break(BreakRule::Node);
-    says(&rt, &map, kind, 0, &[(0, 255, 0)], Some((node, 0)));
-    says(&rt, &map, Kind::Keep, 0, &[(0, 0, 1)], Some((NEXT, 0)));
+    breaks(&rt, &map, 0, &[(0, 254, 0)], None);
+    breaks(&rt, &map, 0, &[(0, 253, 0)], Some((BreakRule::Next, 0)));
+    breaks(&rt, &map, 0, &[(0, 255, 0)], Some((BreakRule::Node, 0)));
+    keeps(&rt, &map, &[(0, 0, 1)], Some((KeepRule::Next, 0)));
 }
 
 // 0 leads to 1, which leads nowhere.
@@ -137,27 +115,11 @@ fn greatest_measures(rt: HostRuntime) {
         marks: 0b11,
         ..unmarked
     };
-    let keep = Kind::Keep;
     let most = u32::MAX;
-    let alike = [(0, 0, most), (1, 0, most)];
-    says(&rt, &unmarked, keep, 0, &alike, None);
-    says(&rt, &marked, keep, 0, &alike, Some((NEXT, 0)));
-    let falling = [(0, 0, most), (1, 0, most - 1)];
-    says(&rt, &marked, keep, 0, &falling, None);
-    says(
-        &rt,
-        &unmarked,
-        keep,
-        0,
-        &[(0, 0, most - 1), (1, 0, most)],
-        Some((NEXT, 0)),
-    );
-    says(
-        &rt,
-        &marked,
-        keep,
-        0,
-        &[(0, 0, 0), (1, 0, 0)],
-        Some((NEXT, 0)),
-    );
+    let next = Some((KeepRule::Next, 0));
+    keeps(&rt, &unmarked, &[(0, 0, most), (1, 0, most)], None);
+    keeps(&rt, &marked, &[(0, 0, most), (1, 0, most)], next);
+    keeps(&rt, &marked, &[(0, 0, most), (1, 0, most - 1)], None);
+    keeps(&rt, &unmarked, &[(0, 0, most - 1), (1, 0, most)], next);
+    keeps(&rt, &marked, &[(0, 0, 0), (1, 0, 0)], next);
 }

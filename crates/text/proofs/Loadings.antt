@@ -1,11 +1,12 @@
 -- What a text that was read, and rows that were filled, amount to.
 use Rattle.std.proofs.Common.{◌≡◌, ℕ, ◌+◌, ◌*◌, ◌<◌, ◌≤◌, Bool, true, false, ◌&&◌, ◌||◌, eqb, ltb, List, [], ◌∷◌, All, length, get_or, sym, refl, ap, ◌∙◌, subst, ⊎_elim, arith}
 use Rattle.chart.specs.Automata.{Automaton, Allowed}
-use Rattle.chart.specs.Kinds.{bit, table}
+use Rattle.chart.specs.Kinds.{table}
+use Rattle.numbers.specs.Bits.{bit}
+use Rattle.numbers.proofs.Bits.{none_false}
 use Rattle.fault.specs.declared.TextFault.{TextFault}
 use Rattle.fault.specs.declared.TextFault.TheVariants.{Form, Range}
 use Rattle.std.proofs.Math.Bool.{or-false}
-use Rattle.std.proofs.lemmas.Nat.Bits.{bit_at-zero}
 use Rattle.std.proofs.lemmas.List.{get_or_past}
 use Rattle.std.proofs.lemmas.List.Elements.{All-head, All-tail}
 use Rattle.std.proofs.lemmas.Bool.{and_parts, or_cases, eqb-true, ltb-true, lt-ltb, le-ltb, cases_lt, false_from_ne_true}
@@ -103,12 +104,14 @@ same_chart d l rows r h cells =
       letters = h.letters j;
       start = λ q. flag_guard (λ x. x.start) refl l.states l.starts d.states h.states h.starts q j;
       mark = λ q. flag_guard (λ x. x.mark) refl l.states l.marks d.states h.states h.marks q j;
-      step = λ a i q. (step_guard l.states l.letters d.steps (cell rows l.letters a i q) a i q fit (cells a i q) ∙ ap (λ k. some_tells k d.steps a i q) h.letters) j;
+      step =
+          λ a i q. (step_guard l.states l.letters d.steps (ltb i l.letters && cell rows l.letters a i q) a i q fit
+          (λ p h. ap (λ b. b && cell rows l.letters a i q) (lt-ltb i l.letters h) ∙ cells a i q p h) ∙ ap (λ k. some_tells k d.steps a i q) h.letters) j;
     })
 
 module _ (l : Loaded) (mid rows : List ℕ) (f : ℕ → ℕ → ℕ → Bool) (empty : (j : ℕ) → j < l.states * l.letters → get_or mid j 0 ≡ 0) (h : Added l mid rows f) where
   no_bit : (j q : ℕ) → j < l.states * l.letters → bit (get_or mid j 0) q ≡ false
-  no_bit j q x = ap (λ y. bit y q) (empty j x) ∙ ap (λ y. eqb y 1) (bit_at-zero q)
+  no_bit j q x = ap (λ y. bit y q) (empty j x) ∙ none_false q
 
   -- rows that were empty hold what was added, and nothing else
   held : (p i q : ℕ) → p < l.states → i < l.letters → cell rows l.letters p i q ≡ f p i q

@@ -1,9 +1,10 @@
 -- What loading a text promises.
 use Rattle.std.specs.Prelude.{◌≡◌, ℕ, ◌*◌, ◌<◌, ◌≤◌, List, length, Ok, Err, Result, slice_index}
 use Rattle.chart.specs.Automata.{Automaton, Allowed}
-use Rattle.chart.specs.Kinds.{Below, table}
+use Rattle.chart.specs.Kinds.{table}
+use Rattle.numbers.specs.Bits.{Below}
 use Rattle.fault.specs.declared.ChartFault.{ChartFault}
-use Rattle.fault.specs.declared.ChartFault.TheVariants.{Text, FewRows, Limits}
+use Rattle.fault.specs.declared.ChartFault.TheVariants.{Text, FewRows}
 use Rattle.text.specs.Documents.{Tells}
 use Rattle.text.specs.Refused.{TextRefused}
 use Rattle.text.specs.declared.loading.Loaded.{Loaded}
@@ -32,7 +33,7 @@ pub record Short (text was : List ℕ) : Type 0 where
 abbrev pub LoadRefused : List ℕ → List ℕ → ChartFault → Type 0
 LoadRefused text was (Text e) = TextRefused text e
 LoadRefused text was FewRows = Short text was
-LoadRefused text was Limits = ⊥
+LoadRefused text was _ = ⊥
 
 abbrev pub Loads : List ℕ → List ℕ → List ℕ → Result Loaded ChartFault → Type 0
 Loads text was rows (Ok l) = Filled text was rows l

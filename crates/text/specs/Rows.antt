@@ -1,6 +1,6 @@
 -- Filling rows with the steps of a document.
 use Rattle.std.specs.Prelude.{◌≡◌, ℕ, ◌+◌, ◌*◌, ◌<◌, ◌≤◌, Bool, true, false, ◌||◌, List, slice_index}
-use Rattle.chart.specs.Kinds.{bit, Below}
+use Rattle.numbers.specs.Bits.{bit, Below}
 use Rattle.text.specs.Documents.{tells_step}
 use Rattle.text.specs.Reading.{step_fits}
 use Rattle.text.specs.declared.entries.Entry.{Entry}

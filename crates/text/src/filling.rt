@@ -3,9 +3,9 @@ ghost use Rattle.std.specs.Prelude.{◌≡◌, ℕ, ◌*◌, ◌<◌, ◌≤◌,
 ghost use Rattle.text.specs.Documents.{tells_step};
 ghost use Rattle.text.specs.Reading.{step_fits};
 
-use crate::bits::with;
 use crate::entries::{By, Entry, StepLine};
 use crate::loading::Loaded;
+use numbers::with;
 
 // The caller's words as the rows of a chart: for each of its states a row for each of its letters. They are lent, since a
 // loader takes no heap.
@@ -39,7 +39,7 @@ impl Rows<'_> {
         ensures { Adds self.old self.new (λ p j q. (from == p) && (i == j && to == q)) }
     {
         let at = from as usize * self.chart.letters as usize + i as usize;
-        self.cells[at] = with(self.cells[at], to);
+        self.cells[at] = with(self.cells[at], to as u64);
     }
 
     // The steps by every letter.

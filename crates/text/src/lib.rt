@@ -1,7 +1,6 @@
 // Chart texts: a reader that accepts exactly the texts of charts, and a loader that fills the caller's rows.
 #![tactic(auto)]
 
-mod bits;
 mod cursors;
 mod entries;
 mod filling;

@@ -1,11 +1,12 @@
 // How far a text is read: the kind of line that comes next, and the chart's numbers so far.
-ghost use Rattle.std.specs.Prelude.{◌≡◌, Some};
+ghost use Rattle.std.specs.Prelude.{◌≡◌, ℕ, ◌<◌, ◌||◌, if◌then◌else◌, ◌==◌, Some};
+ghost use Rattle.numbers.specs.Bits.{bit};
 ghost use Rattle.text.specs.Reading.{Holds, Moved, step_fits, first};
 ghost use Rattle.text.specs.declared.entries.Entry.TheVariants.{State};
 
-use crate::bits::with_if;
 use crate::entries::{By, Entry, Stage, StateLine, StepLine};
 use crate::loading::Loaded;
+use numbers::with;
 
 #[derive(Clone, Copy, PartialEq, Eq, Debug)]
 pub struct Place {
@@ -85,4 +86,12 @@ impl Place {
             Entry::Step(step) => step.fits(chart).then_some(self.to(Stage::AtSteps)),
         }
     }
+}
+
+// The set with q in it where `on` holds.
+fn with_if(set: u32, q: u8, on: bool) -> u32
+    requires { q < 32 }
+    ensures { (i : ℕ) → bit result i ≡ (if on then (q == i) || bit set i else bit set i) }
+{
+    if on { with(set, q as u64) } else { set }
 }

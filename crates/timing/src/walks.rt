@@ -1,7 +1,7 @@
 // A walk over the edges of a map, without a search.
 use graph::Map;
 use lasso::NO_WORD;
-use search::Record;
+use records::Record;
 
 // The number of edges with this letter that leave the node. Each is found by a question, and one more finds that there are no
 // others.

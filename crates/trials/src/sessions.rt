@@ -1,9 +1,9 @@
 // A bench and its tables, and the calls on it.
 use crate::figures::read_records;
 use anyhow::{Context, bail};
-use bench::{Bench, Form, Kind, Record, State};
+use bench::{Bench, BenchFault, Form, Kind, Record, State};
 use chart::Table;
-use fault::{BenchFault, Fault};
+use fault::{Fault, RuleNumber};
 use std::alloc::Global;
 use std::io::{self, Write};
 
@@ -31,11 +31,13 @@ fn used(heap: Global, count: usize) -> anyhow::Result<Vec<Record>> {
 }
 
 pub(crate) fn write_refusal<W: Write>(out: &mut W, fault: BenchFault) -> io::Result<()> {
-    write!(out, "refused {} {}", fault.number(), fault.place())?;
-    if let BenchFault::Broken(breach) = fault {
-        write!(out, " {} {}", breach.rule.kind(), breach.rule.number())?;
+    let told = fault.refusal();
+    write!(out, "refused {} {}", told.number, told.place)?;
+    match told.rule {
+        Some(RuleNumber::Keep(number)) => write!(out, " {} {number}", Kind::Keep),
+        Some(RuleNumber::Break(number)) => write!(out, " {} {number}", Kind::Break),
+        None => Ok(()),
     }
-    Ok(())
 }
 
 fn write_records<W: Write>(out: &mut W, records: &[Record]) -> io::Result<()> {

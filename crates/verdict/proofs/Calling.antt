@@ -1,5 +1,5 @@
 -- What a chain of calls tells, by the law that each of them carries.
-use Rattle.std.proofs.Common.{◌≡◌, ◌∙◌, ℕ, ◌*◌, ◌≤◌, List, [], ◌∷◌, length, replicate, Ok, Err, Some, None, Option, Result, ap, subst, sym}
+use Rattle.std.proofs.Common.{◌≡◌, ◌∙◌, ℕ, ◌*◌, List, [], ◌∷◌, length, replicate, Ok, Err, Some, None, Option, Result, ap, subst, sym}
 use Rattle.std.proofs.lemmas.List.{length-replicate}
 use Rattle.std.specs.Prelude.{MatchResult}
 use Rattle.bench.specs.Calls.{Sized}
@@ -11,17 +11,18 @@ use Rattle.bench.specs.declared.states.Form.{Form}
 use Rattle.bench.specs.declared.verdicts.Verdict.{Verdict}
 use Rattle.bench.proofs.Telling.{has_drafted}
 use Rattle.chart.specs.Automata.{Automaton}
-use Rattle.fault.specs.declared.BenchFault.{BenchFault}
-use Rattle.fault.specs.declared.BenchFault.TheVariants as faults
-use Rattle.fault.specs.declared.SearchFault.TheVariants.{Full}
+use Rattle.bench.specs.declared.faults.BenchFault.{BenchFault}
+use Rattle.bench.specs.declared.faults.BenchFault.TheVariants as faults
+use Rattle.records.specs.declared.faults.SearchFault.TheVariants.{Full}
 use Rattle.rank.specs.Ranked.{ranked_graph}
-use Rattle.rules.specs.declared.Breach.{Breach}
-use Rattle.search.specs.Surveys.{Allowed}
-use Rattle.search.specs.Tables.{blank}
-use Rattle.search.specs.declared.records.Record.{Record}
+use Rattle.ranked.specs.Together.{GoTogether}
+use Rattle.slip.specs.declared.kinds.Breach.{Breach}
+use Rattle.records.specs.Sizes.{Allowed}
+use Rattle.records.specs.Tables.{blank}
+use Rattle.records.specs.declared.record.Record.{Record}
 use Rattle.slip.specs.Certificates.{Certificate}
 use Rattle.slip.specs.Rules.{BreachTold, FirstBreach, Meets}
-use Rattle.slip.specs.Showing.{Shows}
+use Rattle.bench.specs.Showing.{Shows}
 use Rattle.verdict.specs.Certified.{AuditRefused, Certifies, CertifyRefused, CertifyTells, ConfirmTells, DecideTells, Passes, Ready, RulesSaid}
 use Rattle.verdict.specs.declared.certifying.Certified.{Certified}
 
@@ -85,14 +86,14 @@ module _ {D R : Type 0} (meaning_d : D → Automaton) (meaning_r : R → Automat
       }
 
 -- What is refused on a bench that was made is refused at its place among the refusals of all calls.
-module _ (a b : Automaton) (room : ℕ) (letters : a.letters ≡ b.letters) (few : b.states ≤ 6) (allowed : Allowed room) where
+module _ (a b : Automaton) (room : ℕ) (together : GoTogether a b) (allowed : Allowed room) where
   pub decided : (table table' work work' : List Record) (r : Result Certified BenchFault) → CertifyTells a b room table table' work work' r
       → DecideTells a b room table table' work work' r
   decided table table' work work' (Ok c) h =
-      (record { letters = letters; few_states = few; allowed = allowed; sized = h.0 }, h.1, h.2)
-  decided table table' work work' (Err faults.Room) h = (letters, few, λ all. h.0 (all.1, all.2), h.1)
+      (record { together = together; allowed = allowed; sized = h.0 }, h.1, h.2)
+  decided table table' work work' (Err faults.Room) h = (together, λ all. h.0 (all.1, all.2), h.1)
   decided table table' work work' (Err (faults.Search Full)) h =
-      (record { letters = letters; few_states = few; allowed = allowed; sized = h.0 }, h.1, h.2, h.3)
+      (record { together = together; allowed = allowed; sized = h.0 }, h.1, h.2, h.3)
   decided table table' work work' (Err e) h = absurd h
 
   -- after a slip was put, which stands over the table then
@@ -101,7 +102,7 @@ module _ (a b : Automaton) (room : ℕ) (letters : a.letters ≡ b.letters) (few
       → AuditRefused a b room c table table' work work' e
   audit_refused c table put table' work work' sized also enough fits written faults.Room h = absurd (h.0 (also, enough))
   audit_refused c table put table' work work' sized also enough fits written (faults.Search Full) h =
-      (record { letters = letters; few_states = few; allowed = allowed; sized = sized }, enough, fits, h.2, h.3 ∙ written)
+      (record { together = together; allowed = allowed; sized = sized }, enough, fits, h.2, h.3 ∙ written)
   audit_refused c table put table' work work' sized also enough fits written e h = absurd h
 
 -- what an inspection says of a drafted slip

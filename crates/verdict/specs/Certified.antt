@@ -1,22 +1,23 @@
 -- What it means to certify a verdict, to confirm a slip and to audit one; and when each is refused.
-use Rattle.std.specs.Prelude.{◌≡◌, ℕ, ◌<◌, ◌≤◌, List, length, None, Some, Option, Ok, Err, Result, MatchResult}
+use Rattle.std.specs.Prelude.{◌≡◌, ℕ, List, length, None, Some, Option, Ok, Err, Result, MatchResult}
 use Rattle.bench.specs.Calls.{Drafts, Sized}
 use Rattle.bench.specs.Slips.{Fits, form_of, over}
 use Rattle.bench.specs.Tellings.{Status}
 use Rattle.bench.specs.Verdicts.{Decides}
 use Rattle.bench.specs.declared.states.Form.{Form}
 use Rattle.chart.specs.Automata.{Automaton}
-use Rattle.fault.specs.declared.BenchFault.{BenchFault}
-use Rattle.fault.specs.declared.BenchFault.TheVariants.{Letters, States, Room, Shape, Search, Broken}
-use Rattle.fault.specs.declared.SearchFault.TheVariants.{Full}
+use Rattle.bench.specs.declared.faults.BenchFault.{BenchFault}
+use Rattle.bench.specs.declared.faults.BenchFault.TheVariants.{Instance, Room, Shape, Search, Broken}
+use Rattle.ranked.specs.Together.{GoTogether, InstanceRefused}
+use Rattle.records.specs.declared.faults.SearchFault.TheVariants.{Full}
 use Rattle.graph.specs.Walks.{More}
 use Rattle.rank.specs.Ranked.{ranked_graph}
-use Rattle.rules.specs.declared.Breach.{Breach}
-use Rattle.search.specs.Surveys.{Allowed}
-use Rattle.search.specs.declared.records.Record.{Record}
+use Rattle.slip.specs.declared.kinds.Breach.{Breach}
+use Rattle.records.specs.Sizes.{Allowed}
+use Rattle.records.specs.declared.record.Record.{Record}
 use Rattle.slip.specs.Certificates.{Certificate}
 use Rattle.slip.specs.Rules.{BreachTold, FirstBreach, Meets}
-use Rattle.slip.specs.Showing.{Shows}
+use Rattle.bench.specs.Showing.{Shows}
 use Rattle.verdict.specs.declared.auditing.Audited.{Audited}
 use Rattle.verdict.specs.declared.certifying.Certified.{Certified}
 
@@ -57,18 +58,15 @@ module _ (a b : Automaton) (room : ℕ) where
 
   -- a duty and a rule that go together, and a room and a slip table for it
   pub record Ready (table : List Record) : Type 0 where
-    pub letters : a.letters ≡ b.letters
-    pub few_states : b.states ≤ 6
+    pub together : GoTogether a b
     pub allowed : Allowed room
     pub sized : Sized room table
 
   -- 5 comes before 6, 6 before 7, and 7 before 13, after which the work table is free.
   abbrev pub DecideRefused : List Record → List Record → List Record → List Record → BenchFault → Type 0
-  DecideRefused table table' work work' Letters = (a.letters ≡ b.letters → ⊥) × Untouched table table' work work'
-  DecideRefused table table' work work' States =
-      (a.letters ≡ b.letters) × (6 < b.states) × Untouched table table' work work'
+  DecideRefused table table' work work' (Instance e) = InstanceRefused a b e × Untouched table table' work work'
   DecideRefused table table' work work' Room =
-      (a.letters ≡ b.letters) × (b.states ≤ 6) × (Allowed room × Sized room table × (length work ≡ room) → ⊥)
+      GoTogether a b × (Allowed room × Sized room table × (length work ≡ room) → ⊥)
       × Untouched table table' work work'
   DecideRefused table table' work work' (Search Full) =
       Ready table × (length work ≡ room) × More (ranked_graph a b) room × (table' ≡ table)
@@ -89,9 +87,8 @@ module _ (a b : Automaton) (room : ℕ) where
 
     -- 5 comes before 6, 6 before 7, 7 before 9, and 9 before 14, which leaves the slip in the table.
     abbrev pub ConfirmRefused : BenchFault → Type 0
-    ConfirmRefused Letters = (a.letters ≡ b.letters → ⊥) × (table' ≡ table)
-    ConfirmRefused States = (a.letters ≡ b.letters) × (6 < b.states) × (table' ≡ table)
-    ConfirmRefused Room = (a.letters ≡ b.letters) × (b.states ≤ 6) × (Allowed room × Sized room table → ⊥) × (table' ≡ table)
+    ConfirmRefused (Instance e) = InstanceRefused a b e × (table' ≡ table)
+    ConfirmRefused Room = GoTogether a b × (Allowed room × Sized room table → ⊥) × (table' ≡ table)
     ConfirmRefused Shape = Ready table × (Fits room c → ⊥) × (table' ≡ table)
     ConfirmRefused (Broken breach) =
         Ready table × Fits room c × FirstBreach (ranked_graph a b) c breach × (table' ≡ over c.records table)
@@ -109,10 +106,9 @@ module _ (a b : Automaton) (room : ℕ) where
 
       -- 5 comes before 6, 6 before 7, 7 before 9, and 9 before 13, which leaves the slip that was given in the table.
       abbrev pub AuditRefused : BenchFault → Type 0
-      AuditRefused Letters = (a.letters ≡ b.letters → ⊥) × Untouched table table' work work'
-      AuditRefused States = (a.letters ≡ b.letters) × (6 < b.states) × Untouched table table' work work'
+      AuditRefused (Instance e) = InstanceRefused a b e × Untouched table table' work work'
       AuditRefused Room =
-          (a.letters ≡ b.letters) × (b.states ≤ 6) × (Allowed room × Sized room table × (length work ≡ room) → ⊥)
+          GoTogether a b × (Allowed room × Sized room table × (length work ≡ room) → ⊥)
           × Untouched table table' work work'
       AuditRefused Shape = Ready table × (length work ≡ room) × (Fits room c → ⊥) × Untouched table table' work work'
       AuditRefused (Search Full) =

@@ -2,9 +2,8 @@
 ghost use Rattle.verdict.specs.Certified.{AuditTells, RulesSaid};
 
 use crate::certifying::{Certified, certify};
-use bench::{Bench, Breach, Kind, Record};
+use bench::{Bench, BenchFault, Breach, Kind, Record};
 use chart::Chart;
-use fault::BenchFault;
 
 // What an audit of a slip tells.
 #[derive(Clone, Copy, PartialEq, Eq, Debug)]

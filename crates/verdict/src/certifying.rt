@@ -6,9 +6,8 @@ ghost use Rattle.chart.specs.Automata.{Automaton};
 ghost use Rattle.bench.specs.Histories.{LedTo};
 ghost use Rattle.verdict.specs.Certified.{CertifyTells, ConfirmTells, DecideTells, Passes};
 
-use bench::{Bench, Form, Kind, Record, Verdict};
+use bench::{Bench, BenchFault, Form, Kind, Record, Verdict};
 use chart::Chart;
-use fault::BenchFault;
 
 // A verdict, and the form of the slip that shows it, whose records are the first of the slip table.
 #[derive(Clone, Copy, PartialEq, Eq, Debug)]

@@ -1,5 +1,5 @@
 use Rattle.std.proofs.Common.{◌≡◌, ℕ, ◌<◌}
-use Rattle.search.specs.Tables.{node_at, letter_at, measure_at}
+use Rattle.records.specs.Tables.{node_at, letter_at, measure_at}
 use Rattle.bench.proofs.drafts.clear_letters.Given as goal
 
 -- nodes and measures are as they were, and those that are passed have letter 0

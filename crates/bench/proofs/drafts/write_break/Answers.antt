@@ -1,6 +1,6 @@
 use Rattle.std.proofs.Common.{◌∙◌, [], length, Ok, ap, subst}
 use Rattle.bench.proofs.BreakSlips.{break_wrote}
-use Rattle.search.specs.Lassos.{LassoAnswer}
+use Rattle.paths.specs.Lassos.{LassoAnswer}
 use Rattle.bench.proofs.drafts.write_break.Goals as goal
 
 pub returns : goal.returns

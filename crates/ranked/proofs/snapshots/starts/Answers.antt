@@ -1,5 +1,5 @@
 use Rattle.std.proofs.Common.{arith, rules}
-use Rattle.ranked.proofs.Members.{everywhere}
+use Rattle.numbers.proofs.Bits.{everywhere}
 use Rattle.ranked.proofs.snapshots.starts.Goals as goal
 
 pub returns : goal.returns

@@ -24,7 +24,7 @@ returns-in_err-certified g c =
     let refused = c.in_err-certified.ensures a b n (Call.clear ∷ examined) c.put.new.table cleared in
     let p = err_from_is_err_and c.from_residual-in_err-certified.result c.from_residual-in_err-certified.ensures.1 in
     rw (p.1, p.2)
-    (audit_refused a b n new.same_letters new.few_states new.allowed given c.args.table.now c.put.new.table c.certify.new.table c.args.work.now
+    (audit_refused a b n new.together new.allowed given c.args.table.now c.put.new.table c.certify.new.table c.args.work.now
     c.certify.new.work sized put.led.sized (c.in_ok-check_work.ensures ∙ new.same_room) put.follows.1 put.writes c.in_err-certified.field-0.0 refused)
 
 pub returns : goal.returns
@@ -43,7 +43,7 @@ returns g c =
     let cleared = c.clear.ensures.law a b n examined inspect.now c.put.new.table c.put.new.table inspect.led inspect.led.sized in
     let certified = c.in_ok-certified.ensures a b n (Call.clear ∷ examined) c.put.new.table cleared in
     let ready : Ready a b n c.args.table.now =
-    record { letters = new.same_letters; few_states = new.few_states; allowed = new.allowed; sized = sized } in (
+    record { together = new.together; allowed = new.allowed; sized = sized } in (
       ready,
       c.in_ok-check_work.ensures ∙ new.same_room,
       record {

@@ -15,7 +15,7 @@ returns g c =
     let new = c.in_ok-bench.ensures.answer in
     let sized = subst (λ k. Sized k c.args.table.now) new.same_room c.in_ok-put.ensures.answer.sized in
     let ready : Ready a b n c.args.table.now =
-    record { letters = new.same_letters; few_states = new.few_states; allowed = new.allowed; sized = sized } in
+    record { together = new.together; allowed = new.allowed; sized = sized } in
     let put =
     c.in_ok-put.ensures.law.own a b n [] Status.empty (c.in_ok-bench.ensures.law c.args.table.now sized) in
     let calls = Call.put given (Ok c.in_ok-put.field-0) ∷ [] in

@@ -9,5 +9,5 @@ returns g c =
     let n = c.args.room in
     let new = c.in_ok-bench.ensures.answer in
     let mine = some_table n in
-    decided a b n new.same_letters new.few_states new.allowed c.args.table.now c.certify.new.table c.args.work.now c.certify.new.work
+    decided a b n new.together new.allowed c.args.table.now c.certify.new.table c.args.work.now c.certify.new.work
     c.certify.result (c.certify.ensures a b n [] mine.0 (c.in_ok-bench.ensures.law mine.0 mine.1))

@@ -1,6 +1,6 @@
 -- What p steps to is a state, so below 32.
 use Rattle.std.proofs.Common.{arith, rules, tests}
-use Rattle.graph.proofs.Finding.{least_found}
+use Rattle.numbers.proofs.Finding.{least_found}
 use Rattle.member.proofs.charts.ChartMap.first_step.Goals as goal
 
 pub returns : goal.returns

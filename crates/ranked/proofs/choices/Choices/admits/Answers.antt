@@ -1,6 +1,6 @@
 use Rattle.std.proofs.Common.{get_or, ap, sym, ◌∙◌, arith}
 use Rattle.std.proofs.lemmas.Bool.{both_ways, false_from_ne_true}
-use Rattle.chart.specs.Kinds.{bit}
+use Rattle.numbers.specs.Bits.{bit}
 use Rattle.ranked.specs.Digits.{digit, drawn}
 use Rattle.ranked.proofs.Numerals.{drawn_at}
 use Rattle.ranked.proofs.choices.Choices.admits.Goals as goal

@@ -1,5 +1,5 @@
 use Rattle.std.proofs.Common.{◌≡◌, ℕ, ◌<◌, true, get_or}
-use Rattle.chart.specs.Kinds.{bit}
+use Rattle.numbers.specs.Bits.{bit}
 use Rattle.ranked.specs.Digits.{digit}
 use Rattle.ranked.proofs.choices.Choices.admits.Given as goal
 

@@ -1,6 +1,6 @@
 use Rattle.std.proofs.Common.{◌/◌, subst, sym, arith}
 use Rattle.std.proofs.lemmas.Bool.{and_parts}
-use Rattle.graph.specs.Least.{Least}
+use Rattle.numbers.specs.Least.{Least}
 use Rattle.ranked.specs.Choices.{chosen, rest}
 use Rattle.ranked.specs.Digits.{drawn}
 use Rattle.ranked.proofs.Choosing.{chosen_empty, chosen_here, chosen_next, chosen_none}

@@ -1,6 +1,6 @@
 use Rattle.std.proofs.Common.{◌≡◌, ℕ, ◌*◌, ◌%◌, ◌^◌, suc, ◌+◌, subst, arith}
 use Rattle.std.proofs.Math.Nat.{mod-eq_of_lt, zero-mod}
-use Rattle.graph.specs.Least.{Least}
+use Rattle.numbers.specs.Least.{Least}
 use Rattle.ranked.specs.Digits.{drawn}
 use Rattle.ranked.proofs.choices.Choices.least_ranks.Goals as goal
 

@@ -1,5 +1,5 @@
 use Rattle.std.proofs.Common.{◌*◌, ◌%◌, ◌^◌}
-use Rattle.graph.specs.Least.{Least}
+use Rattle.numbers.specs.Least.{Least}
 use Rattle.ranked.specs.Digits.{drawn}
 use Rattle.ranked.proofs.choices.Choices.least_ranks.Given as goal
 

@@ -1,8 +1,8 @@
 use Rattle.std.proofs.Common.{◌≡◌, ◌+◌, ◌-◌, Some, None, ap, subst, sym, ◌∙◌, arith}
-use Rattle.chart.specs.Kinds.{bit}
-use Rattle.graph.specs.Least.{Least}
+use Rattle.numbers.specs.Bits.{bit}
+use Rattle.numbers.specs.Least.{Least}
 use Rattle.ranked.specs.Choices.{rest, upper}
-use Rattle.ranked.proofs.Members.{member_below}
+use Rattle.numbers.proofs.Bits.{member_below}
 use Rattle.ranked.proofs.Uppers.{least_rest_none, least_rest_some, upper_small}
 use Rattle.ranked.proofs.choices.Choices.least_rest.Goals as goal
 

@@ -1,6 +1,6 @@
 use Rattle.std.proofs.Common.{ℕ, ◌%◌, ◌≤◌, ◌*◌, ◌&&◌, eqb, arith}
 use Rattle.std.proofs.Math.Pow.{pow_mono}
-use Rattle.chart.specs.Kinds.{bit}
+use Rattle.numbers.specs.Bits.{bit}
 use Rattle.rank.specs.Layout.{flag}
 use Rattle.rank.proofs.Fields.{fields_small}
 use Rattle.rank.proofs.Numbers.{flag_small}

@@ -1,5 +1,5 @@
 use Rattle.std.proofs.Common.{◌≡◌, ◌%◌, ◌&&◌, eqb}
-use Rattle.chart.specs.Kinds.{bit}
+use Rattle.numbers.specs.Bits.{bit}
 use Rattle.rank.specs.Layout.{fields, flag}
 use Rattle.ranked.specs.Digits.{digit}
 use Rattle.ranked.proofs.choices.Choices.owed.Given as goal

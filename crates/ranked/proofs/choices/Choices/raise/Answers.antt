@@ -1,6 +1,6 @@
 use Rattle.std.proofs.Common.{◌≡◌, ℕ, ◌+◌, ◌*◌, ◌%◌, ◌^◌, Some, None, suc, get_or, subst, sym, ap, ◌∙◌, arith}
-use Rattle.chart.specs.Kinds.{bit}
-use Rattle.graph.specs.Least.{Least}
+use Rattle.numbers.specs.Bits.{bit}
+use Rattle.numbers.specs.Least.{Least}
 use Rattle.ranked.specs.Digits.{digit, drawn}
 use Rattle.ranked.proofs.Numerals.{drawn_small}
 use Rattle.ranked.proofs.Raising.{digit_small, raise_empty, raise_here, raise_next, raise_none}

@@ -1,7 +1,7 @@
 use Rattle.std.proofs.Common.{ap, ◌∙◌, eqb, rules, arith}
 use Rattle.std.proofs.lemmas.Nat.{one_shl}
-use Rattle.chart.specs.Kinds.{bit}
-use Rattle.chart.proofs.Bits.{bit_pow}
+use Rattle.numbers.specs.Bits.{bit}
+use Rattle.numbers.proofs.Bits.{bit_pow}
 use Rattle.ranked.proofs.maps.RankedMap.around.Goals as goal
 
 pub returns : goal.returns

@@ -1,7 +1,7 @@
 use Rattle.std.proofs.Common.{ℕ, ◌+◌, ◌*◌, ap, ◌∙◌, sym, arith}
 use Rattle.std.proofs.lemmas.Nat.{one_shl}
-use Rattle.chart.specs.Kinds.{bit}
-use Rattle.chart.proofs.Bits.{bit_pow}
+use Rattle.numbers.specs.Bits.{bit}
+use Rattle.numbers.proofs.Bits.{bit_pow}
 use Rattle.ranked.specs.Maps.{rule_of}
 use Rattle.ranked.proofs.Ranking.{first_of_other, first_of_start}
 use Rattle.ranked.proofs.maps.RankedMap.first_digits.Goals as goal

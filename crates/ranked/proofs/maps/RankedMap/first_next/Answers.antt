@@ -1,5 +1,5 @@
 use Rattle.std.proofs.Common.{sym}
-use Rattle.graph.proofs.Finding.{least_same}
+use Rattle.numbers.proofs.Finding.{least_same}
 use Rattle.rank.specs.Ranked.{ranked_graph}
 use Rattle.ranked.specs.Bounds.{charts_of}
 use Rattle.ranked.specs.Choices.{chosen}

@@ -1,4 +1,4 @@
-use Rattle.graph.proofs.Finding.{least_same}
+use Rattle.numbers.proofs.Finding.{least_same}
 use Rattle.rank.specs.Ranked.{ranked_graph}
 use Rattle.ranked.specs.Bounds.{charts_of}
 use Rattle.ranked.specs.Choices.{chosen}

@@ -1,6 +1,6 @@
 use Rattle.std.proofs.Common.{◌≡◌, ℕ, ◌&&◌, sym, ap, ◌∙◌, arith}
 use Rattle.std.proofs.lemmas.Bool.{and_left}
-use Rattle.chart.specs.Kinds.{bit}
+use Rattle.numbers.specs.Bits.{bit}
 use Rattle.numbers.specs.Below.{any_below}
 use Rattle.ranked.specs.Maps.{rule_of}
 use Rattle.ranked.proofs.Owing.{followers_with, followers_without}

@@ -1,5 +1,5 @@
 use Rattle.std.proofs.Common.{◌≡◌, ℕ, ◌&&◌}
-use Rattle.chart.specs.Kinds.{bit}
+use Rattle.numbers.specs.Bits.{bit}
 use Rattle.numbers.specs.Below.{any_below}
 use Rattle.ranked.specs.Maps.{rule_of}
 use Rattle.ranked.proofs.maps.RankedMap.followers.Given as goal

@@ -1,5 +1,5 @@
 use Rattle.std.proofs.Common.{refl, rules}
-use Rattle.ranked.proofs.Members.{none_false}
+use Rattle.numbers.proofs.Bits.{none_false}
 use Rattle.ranked.proofs.maps.RankedMap.starts.Goals as goal
 
 pub returns : goal.returns

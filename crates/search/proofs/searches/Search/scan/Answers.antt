@@ -1,4 +1,5 @@
 use Rattle.std.proofs.Common.{◌≡◌, ◌∙◌, sym, subst}
+use Rattle.search.specs.Progress.{progress}
 use Rattle.search.specs.Changes.{Quiet}
 use Rattle.graph.specs.Implicit.{graph_of}
 use Rattle.search.specs.Searches.{Searching}
@@ -16,7 +17,7 @@ loop-self-preserved g c =
     let table = c.in_default.ensures.same_table in
     let is = c.in_default.ensures.progress in (
       record { reference = table.reference ∙ same.reference; len = table.len ∙ same.len },
-      subst (λ y. q.progress ≡ record { size = y.size; top = y.top; cur = y.cur; from = q.progress.from; found = y.found }) further is,
-      subst (λ y. Searching m y.size y.top y.cur q.progress.from q.work.now) (sym is) searching',
-      subst (λ y. Quiet y.cur s.work.now q.work.now) (sym is) (quiet_join mid.progress.cur s.work.now mid.work.now q.work.now quiet quiet'),
+      subst (λ y. (progress q) ≡ record { size = y.size; top = y.top; cur = y.cur; from = q.from; found = y.found }) further is,
+      subst (λ y. Searching m y.size y.top y.cur q.from q.table.work.now) (sym is) searching',
+      subst (λ y. Quiet y.cur s.table.work.now q.table.work.now) (sym is) (quiet_join mid.cur s.table.work.now mid.table.work.now q.table.work.now quiet quiet'),
     )

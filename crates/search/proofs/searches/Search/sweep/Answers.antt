@@ -1,4 +1,5 @@
 use Rattle.std.proofs.Common.{◌∙◌, Some}
+use Rattle.search.specs.Progress.{progress}
 use Rattle.graph.specs.declared.implicit.Nodes.TheVariants.{Starts}
 use Rattle.graph.specs.Implicit.{graph_of}
 use Rattle.graph.proofs.Ascending.{next_of}
@@ -20,5 +21,5 @@ loop-start-preserved g c =
       record { reference = table.reference ∙ same.reference; len = table.len ∙ same.len },
       v.rested.going,
       v.rested.empty,
-      starts_more m s.progress work.progress c.loop-start.start-iterator.from c.next.new.self.from c.in-Some.start s.work.now work.work.now gives v done,
+      starts_more m (progress s) (progress work) c.loop-start.start-iterator.from c.next.new.self.from c.in-Some.start s.table.work.now work.table.work.now gives v done,
     )

@@ -1,9 +1,9 @@
 use Rattle.std.proofs.Common.{◌+◌, length}
 use Rattle.graph.specs.Implicit.{graph_of}
-use Rattle.search.specs.Tables.{node_at, measure_at}
+use Rattle.records.specs.Tables.{node_at, measure_at}
 use Rattle.search.specs.Trees.{Heavy, Follows}
 use Rattle.search.proofs.searches.Search.weigh.Given as goal
 
 abbrev pub invariant-loop-record : goal.invariant-loop-record
 invariant-loop-record g l =
-    Heavy (Follows (graph_of g.M.Map.graph l.graph) (node_at l.self.work.now) l.self.progress.cur (l.self.progress.cur + l.record-index)) l.self.progress.top (length l.self.work.now) (node_at l.self.work.now) (measure_at l.self.work.now) l.best
+    Heavy (Follows (graph_of g.M.Map.graph l.graph) (node_at l.self.table.work.now) l.self.cur (l.self.cur + l.record-index)) l.self.table.top (length l.self.table.work.now) (node_at l.self.table.work.now) (measure_at l.self.table.work.now) l.best

@@ -14,7 +14,7 @@ loop-next-preserved g c =
     next_of g.M.Map.graph c.loop-next.next-iterator c.next.new.self (Some c.in-Some.next) c.args.graph.now (Successors c.args.node c.args.letter) graph nodes rises in (
       rises.same_graph ∙ graph,
       rises.same_nodes ∙ nodes,
-      heavy_step (graph_of g.M.Map.graph c.args.graph.now) c.args.node c.args.letter s.progress.top s.work.now
+      heavy_step (graph_of g.M.Map.graph c.args.graph.now) c.args.node c.args.letter s.table.top s.table.work.now
           c.loop-next.next-iterator.from c.next.new.self.from c.in-Some.next c.loop-next.best c.measure_of.result c.max-best.result
           c.requires gives heavy c.measure_of.ensures c.max-best.ensures,
     )

@@ -1,7 +1,7 @@
 use Rattle.std.proofs.Common.{◌≡◌, ℕ, ◌-◌, ◌<◌, true, List, length, take, drop, Decides, subst, arith, length-drop}
 use Rattle.std.proofs.lemmas.List.{take_all}
-use Rattle.search.specs.declared.records.Record.{Record}
-use Rattle.search.specs.Tables.{node_at}
+use Rattle.records.specs.declared.record.Record.{Record}
+use Rattle.records.specs.Tables.{node_at}
 use Rattle.graph.specs.Implicit.{graph_of}
 use Rattle.slip.proofs.Sweeps.{marked_behind}
 use Rattle.slip.proofs.inspection.Inspection.has_mark_from.Goals as goal

@@ -1,5 +1,5 @@
 use Rattle.std.proofs.Common.{ℕ, ◌<◌}
-use Rattle.rules.specs.declared.Rule.{Rule}
+use Rattle.slip.specs.declared.kinds.Rule.{Rule}
 use Rattle.slip.specs.Certificates.{content}
 use Rattle.slip.specs.Rules.{Holds}
 use Rattle.slip.proofs.slips.Slip.first_breach.Given as goal

@@ -1,0 +1,3 @@
+pub mod Queues
+pub mod Paths
+pub mod Lassos

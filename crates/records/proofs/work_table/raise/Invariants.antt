@@ -1,0 +1,9 @@
+use Rattle.std.proofs.Common.{◌≡◌, ℕ, ◌<◌}
+use Rattle.records.specs.Tables.{node_at, letter_at, measure_at}
+use Rattle.records.proofs.work_table.raise.Given as goal
+
+-- the nodes are as they were, and those that are passed have letter 0 and the measure
+abbrev pub invariant-loop-record : goal.invariant-loop-record
+invariant-loop-record l =
+    ((k : ℕ) → node_at l.record-items k ≡ node_at l.initial.record-items k)
+    × ((k : ℕ) → k < l.record-index → (letter_at l.record-items k ≡ 0) × (measure_at l.record-items k ≡ l.measure))

@@ -1,0 +1,4 @@
+pub mod Refusals
+pub mod Sizes
+pub mod Tables
+pub mod WorkTables

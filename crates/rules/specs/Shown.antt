@@ -1,8 +1,0 @@
--- The word for a kind, in bytes.
-use Rattle.std.specs.Prelude.{ℕ, List, codes}
-use Rattle.rules.specs.declared.Kind.{Kind}
-use Rattle.rules.specs.declared.Kind.TheVariants.{Keep, Break}
-
-abbrev pub kind_text : Kind → List ℕ
-kind_text Keep = codes "keep"
-kind_text Break = codes "break"
